@@ -1,0 +1,2 @@
+-- What a library is.
+pub mod Library

@@ -1,0 +1,1 @@
+// What a library is, and the text that libraries are written in.
