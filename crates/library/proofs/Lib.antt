@@ -1,1 +1,4 @@
--- Lemmas on libraries.
+-- Lemmas on libraries and their text.
+pub mod Labels
+pub mod Operands
+pub mod Reading
