@@ -13,18 +13,26 @@ use Rattle.base.proofs.Choices.{pick-ok, on-ok-if}
 use Rattle.text.specs.Words.{digits, below}
 use Rattle.library.specs.Library.{Instruction, Cell, number, ref, at, slot, named, instruction}
 use Rattle.library.specs.Keywords.{k-all, k-inner, k-must, k-may, k-word, k-ref, k-at, k-slot, k-name, k-inward, k-needs, k-def, k-init, k-fini}
-use Rattle.library.specs.Lines.{Read, number-below, a-register, a-cell, a-number, a-word, either, then, end-line, reg-num, reg-reg-num, reg-num-reg, reg-cell, three-regs, two-regs, one-cell, one-reg, reg-cell-choice, reg-reg-cell, operands, opcode-of, instruction-line, cell-line, Item, inward, needs, define, init, fini, cell, item-line}
+use Rattle.library.specs.Lines.{Read, number-below, a-register, a-cell, a-number, a-word, either, then, end-line, reg-num, reg-reg-num, reg-num-reg, reg-cell, three-regs, two-regs, one-cell, one-reg, reg-cell-choice, reg-reg-cell, ternary, unary-of, operands, opcode-of, instruction-line, cell-line, Item, inward, needs, define, init, fini, cell, item-line}
 use Rattle.library.specs.Text.{cell-reach, item-reach}
 use Rattle.library.specs.Fine.{Fine, Cell-fine}
 use Rattle.library.specs.declared.faults.LineFault.{LineFault}
 use Rattle.library.specs.declared.faults.LineFault.the-variants.{UnknownKeyword}
+use Rattle.library.specs.declared.types.Arithmetic.{Arithmetic}
+use Rattle.library.specs.declared.types.Arithmetic.the-variants as arithmetic
+use Rattle.library.specs.declared.types.Unary.{Unary}
+use Rattle.library.specs.declared.types.Unary.the-variants as unary
 use Rattle.library.specs.declared.types.Opcode.{Opcode}
 use Rattle.library.specs.declared.types.Opcode.the-variants as opcode
 use Rattle.std.proofs.shelf.Tests.{ltb-true}
 
 then-all : {A C : Type 0} (P : C → Type 0) (f : Name → Read A) (ws : List Name) (g : A → List Name → Read C) → ((w : Name) (a : A) (us : List Name) → f w ≡ Ok a → If-ok P (g a us)) → If-ok P (then f ws g)
 then-all P f [] g h = tt
-then-all P f (w ∷ ws) g h = on-ok-if P (f w) (λ a. g a ws) (λ a e. h w a ws e)
+then-all {A = A} P f (w ∷ ws) g h = go (f w) refl
+  where
+    go : (r : Read A) → f w ≡ r → If-ok P (on-ok {A = A × List Name} (on-ok r (λ a. Ok (a, ws))) (λ p. g (p .0) (p .1)))
+    go (Ok a) e = h w a ws e
+    go (Err q) e = tt
 
 end-all : {C : Type 0} (P : C → Type 0) (c : C) (ws : List Name) → P c → If-ok P (end-line c ws)
 end-all P c [] p = p
@@ -65,30 +73,36 @@ three-fine f ws h = reg-all Fine ws _ (λ a us p. reg-all Fine us _ (λ b vs q. 
 one-fine : (f : ℕ → Instruction) (ws : List Name) → ((a : ℕ) → a < 8 → Fine (f a)) → If-ok Fine (one-reg f ws)
 one-fine f ws h = reg-all Fine ws _ (λ a us p. end-all Fine _ us (h a p))
 
+ternary-fine : (o : Arithmetic) (a b c : ℕ) → a < 8 → b < 8 → c < 8 → Fine (ternary o a b c)
+ternary-fine arithmetic.Add a b c p q r = (p, q, r)
+ternary-fine arithmetic.Sub a b c p q r = (p, q, r)
+ternary-fine arithmetic.Mul a b c p q r = (p, q, r)
+ternary-fine arithmetic.Less a b c p q r = (p, q, r)
+ternary-fine arithmetic.Same a b c p q r = (p, q, r)
+
+unary-fine : (o : Unary) (a : ℕ) → a < 8 → Fine (unary-of o a)
+unary-fine unary.Callr a p = p
+unary-fine unary.Push a p = p
+unary-fine unary.Pop a p = p
+unary-fine unary.Out a p = p
+unary-fine unary.In a p = p
+unary-fine unary.Close a p = p
+unary-fine unary.End a p = p
+
 operands-fine : (k : Opcode) (ws : List Name) → If-ok Fine (operands k ws)
 operands-fine opcode.Set ws = reg-all Fine ws _ (λ a us p. num-all Fine us _ (λ n vs q. end-all Fine _ vs (p, q)))
 operands-fine opcode.Get ws = reg-all Fine ws _ (λ a us p. reg-all Fine us _ (λ b vs q. num-all Fine vs _ (λ n xs r. end-all Fine _ xs (p, q, r))))
 operands-fine opcode.Sto ws = reg-all Fine ws _ (λ a us p. num-all Fine us _ (λ b vs q. reg-all Fine vs _ (λ n xs r. end-all Fine _ xs (p, q, r))))
 operands-fine opcode.Own ws = reg-all Fine ws _ (λ a us p. cell-all Fine us _ (λ n vs q. end-all Fine _ vs (p, q)))
-operands-fine opcode.Add ws = three-fine _ ws (λ a b c p q r. (p, q, r))
-operands-fine opcode.Sub ws = three-fine _ ws (λ a b c p q r. (p, q, r))
-operands-fine opcode.Mul ws = three-fine _ ws (λ a b c p q r. (p, q, r))
-operands-fine opcode.Less ws = three-fine _ ws (λ a b c p q r. (p, q, r))
-operands-fine opcode.Same ws = three-fine _ ws (λ a b c p q r. (p, q, r))
+operands-fine (opcode.Arithmetic o) ws = three-fine _ ws (ternary-fine o)
 operands-fine opcode.Move ws = reg-all Fine ws _ (λ a us p. reg-all Fine us _ (λ b vs q. end-all Fine _ vs (p, q)))
 operands-fine opcode.Jump ws = cell-all Fine ws _ (λ a us p. end-all Fine _ us p)
 operands-fine opcode.If0 ws = reg-all Fine ws _ (λ a us p. cell-all Fine us _ (λ n vs q. end-all Fine _ vs (p, q)))
 operands-fine opcode.Call ws = cell-all Fine ws _ (λ a us p. end-all Fine _ us p)
-operands-fine opcode.Callr ws = one-fine _ ws (λ a p. p)
 operands-fine opcode.Ret ws = end-all Fine _ ws tt
-operands-fine opcode.Push ws = one-fine _ ws (λ a p. p)
-operands-fine opcode.Pop ws = one-fine _ ws (λ a p. p)
-operands-fine opcode.Out ws = one-fine _ ws (λ a p. p)
-operands-fine opcode.In ws = one-fine _ ws (λ a p. p)
+operands-fine (opcode.Unary o) ws = one-fine _ ws (unary-fine o)
 operands-fine opcode.Open ws = reg-all Fine ws _ (λ a us p. cell-all Fine us _ (λ n vs q. then-all Fine (either k-all k-inner) vs _ (λ t b xs e. end-all Fine _ xs (p, q))))
 operands-fine opcode.Find ws = reg-all Fine ws _ (λ a us p. reg-all Fine us _ (λ b vs q. cell-all Fine vs _ (λ n xs r. end-all Fine _ xs (p, q, r))))
-operands-fine opcode.Close ws = one-fine _ ws (λ a p. p)
-operands-fine opcode.End ws = one-fine _ ws (λ a p. p)
 
 instruction-fine : (w : Name) (ws : List Name) → If-ok Fine (instruction-line w ws)
 instruction-fine w ws = go (opcode-of w)

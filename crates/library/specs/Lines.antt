@@ -13,6 +13,10 @@ use Rattle.library.specs.Library as library
 use Rattle.library.specs.Keywords.{k-inward, k-needs, k-def, k-init, k-fini, k-word, k-ref, k-at, k-slot, k-name, k-all, k-inner, k-must, k-may, k-set, k-get, k-sto, k-own, k-add, k-sub, k-mul, k-less, k-same, k-move, k-jump, k-if0, k-call, k-callr, k-ret, k-push, k-pop, k-out, k-in, k-open, k-find, k-close, k-end}
 use Rattle.library.specs.declared.faults.LineFault.{LineFault}
 use Rattle.library.specs.declared.faults.LineFault.the-variants.{UnknownKeyword, MissingWord, SurplusWord, NotRegister, NotCell, NotNumber, NotChoice}
+use Rattle.library.specs.declared.types.Arithmetic.{Arithmetic}
+use Rattle.library.specs.declared.types.Arithmetic.the-variants as arithmetic
+use Rattle.library.specs.declared.types.Unary.{Unary}
+use Rattle.library.specs.declared.types.Unary.the-variants as unary
 use Rattle.library.specs.declared.types.Opcode.{Opcode}
 use Rattle.library.specs.declared.types.Opcode.the-variants as opcode
 
@@ -44,10 +48,14 @@ a-word w = Ok w
 abbrev pub either : Name → Name → Name → Read Bool
 either y n w = pick (same w y) (Ok true) (pick (same w n) (Ok false) (Err NotChoice))
 
+-- the next word as f reads it, and the words behind it
+abbrev pub takes : {A : Type 0} → (Name → Read A) → List Name → Read (A × List Name)
+takes f [] = Err MissingWord
+takes f (w ∷ ws) = on-ok (f w) (λ a. Ok (a, ws))
+
 -- the next word is read by f, the rest by g
 abbrev pub then : {A C : Type 0} → (Name → Read A) → List Name → (A → List Name → Read C) → Read C
-then f [] g = Err MissingWord
-then f (w ∷ ws) g = on-ok (f w) (λ a. g a ws)
+then f ws g = on-ok (takes f ws) (λ p. g (p .0) (p .1))
 
 -- the line ends here
 abbrev pub end-line : {C : Type 0} → C → List Name → Read C
@@ -94,31 +102,39 @@ reg-cell-choice f ws = then a-register ws (λ a xs. then a-cell xs (λ b ys. the
 abbrev pub reg-reg-cell : (ℕ → ℕ → ℕ → Instruction) → List Name → Read Instruction
 reg-reg-cell f ws = then a-register ws (λ a xs. then a-register xs (λ b ys. then a-cell ys (λ c zs. end-line (f a b c) zs)))
 
+-- an instruction with three registers
+abbrev pub ternary : Arithmetic → ℕ → ℕ → ℕ → Instruction
+ternary arithmetic.Add = library.Add
+ternary arithmetic.Sub = library.Sub
+ternary arithmetic.Mul = library.Mul
+ternary arithmetic.Less = library.Less
+ternary arithmetic.Same = library.Same
+
+-- an instruction with one register
+abbrev pub unary-of : Unary → ℕ → Instruction
+unary-of unary.Callr = library.Callr
+unary-of unary.Push = library.Push
+unary-of unary.Pop = library.Pop
+unary-of unary.Out = library.Out
+unary-of unary.In = library.In
+unary-of unary.Close = library.Close
+unary-of unary.End = library.End
+
 -- the operands of an instruction
 abbrev pub operands : Opcode → List Name → Read Instruction
 operands opcode.Set ws = reg-num library.Set ws
 operands opcode.Get ws = reg-reg-num library.Get ws
 operands opcode.Sto ws = reg-num-reg library.Sto ws
 operands opcode.Own ws = reg-cell library.Own ws
-operands opcode.Add ws = three-regs library.Add ws
-operands opcode.Sub ws = three-regs library.Sub ws
-operands opcode.Mul ws = three-regs library.Mul ws
-operands opcode.Less ws = three-regs library.Less ws
-operands opcode.Same ws = three-regs library.Same ws
+operands (opcode.Arithmetic o) ws = three-regs (ternary o) ws
 operands opcode.Move ws = two-regs library.Move ws
 operands opcode.Jump ws = one-cell library.Jump ws
 operands opcode.If0 ws = reg-cell library.If0 ws
 operands opcode.Call ws = one-cell library.Call ws
-operands opcode.Callr ws = one-reg library.Callr ws
 operands opcode.Ret ws = end-line library.Ret ws
-operands opcode.Push ws = one-reg library.Push ws
-operands opcode.Pop ws = one-reg library.Pop ws
-operands opcode.Out ws = one-reg library.Out ws
-operands opcode.In ws = one-reg library.In ws
+operands (opcode.Unary o) ws = one-reg (unary-of o) ws
 operands opcode.Open ws = reg-cell-choice library.Open ws
 operands opcode.Find ws = reg-reg-cell library.Find ws
-operands opcode.Close ws = one-reg library.Close ws
-operands opcode.End ws = one-reg library.End ws
 
 -- the entry of a word in a table of keywords
 abbrev pub keyed : {X : Type 0} → List (Name × X) → Name → Option X
@@ -132,15 +148,15 @@ or-else (some x) o = some x
 
 -- values and memory
 abbrev pub data-opcodes : List (Name × Opcode)
-data-opcodes = (k-set, opcode.Set) ∷ (k-get, opcode.Get) ∷ (k-sto, opcode.Sto) ∷ (k-own, opcode.Own) ∷ (k-add, opcode.Add) ∷ (k-sub, opcode.Sub) ∷ (k-mul, opcode.Mul) ∷ (k-less, opcode.Less) ∷ (k-same, opcode.Same) ∷ (k-move, opcode.Move) ∷ []
+data-opcodes = (k-set, opcode.Set) ∷ (k-get, opcode.Get) ∷ (k-sto, opcode.Sto) ∷ (k-own, opcode.Own) ∷ (k-add, opcode.Arithmetic arithmetic.Add) ∷ (k-sub, opcode.Arithmetic arithmetic.Sub) ∷ (k-mul, opcode.Arithmetic arithmetic.Mul) ∷ (k-less, opcode.Arithmetic arithmetic.Less) ∷ (k-same, opcode.Arithmetic arithmetic.Same) ∷ (k-move, opcode.Move) ∷ []
 
 -- where it goes on
 abbrev pub flow-opcodes : List (Name × Opcode)
-flow-opcodes = (k-jump, opcode.Jump) ∷ (k-if0, opcode.If0) ∷ (k-call, opcode.Call) ∷ (k-callr, opcode.Callr) ∷ (k-ret, opcode.Ret) ∷ (k-push, opcode.Push) ∷ (k-pop, opcode.Pop) ∷ []
+flow-opcodes = (k-jump, opcode.Jump) ∷ (k-if0, opcode.If0) ∷ (k-call, opcode.Call) ∷ (k-callr, opcode.Unary unary.Callr) ∷ (k-ret, opcode.Ret) ∷ (k-push, opcode.Unary unary.Push) ∷ (k-pop, opcode.Unary unary.Pop) ∷ []
 
 -- what is shown, read, opened and ended
 abbrev pub link-opcodes : List (Name × Opcode)
-link-opcodes = (k-out, opcode.Out) ∷ (k-in, opcode.In) ∷ (k-open, opcode.Open) ∷ (k-find, opcode.Find) ∷ (k-close, opcode.Close) ∷ (k-end, opcode.End) ∷ []
+link-opcodes = (k-out, opcode.Unary unary.Out) ∷ (k-in, opcode.Unary unary.In) ∷ (k-open, opcode.Open) ∷ (k-find, opcode.Find) ∷ (k-close, opcode.Unary unary.Close) ∷ (k-end, opcode.Unary unary.End) ∷ []
 
 -- the instruction whose keyword a word is
 abbrev pub opcode-of : Name → Option Opcode

@@ -23,6 +23,28 @@ pub struct CellNo(pub u16);
 #[derive(Clone, Copy)]
 pub struct LibraryId(pub usize);
 
+// Instructions with three registers.
+#[derive(Clone, Copy)]
+pub enum Arithmetic {
+    Add,
+    Sub,
+    Mul,
+    Less,
+    Same,
+}
+
+// Instructions with one register.
+#[derive(Clone, Copy)]
+pub enum Unary {
+    Callr,
+    Push,
+    Pop,
+    Out,
+    In,
+    Close,
+    End,
+}
+
 // An instruction by its keyword alone.
 #[derive(Clone, Copy)]
 pub enum Opcode {
@@ -30,25 +52,15 @@ pub enum Opcode {
     Get,
     Sto,
     Own,
-    Add,
-    Sub,
-    Mul,
-    Less,
-    Same,
+    Arithmetic(Arithmetic),
     Move,
     Jump,
     If0,
     Call,
-    Callr,
     Ret,
-    Push,
-    Pop,
-    Out,
-    In,
+    Unary(Unary),
     Open,
     Find,
-    Close,
-    End,
 }
 
 // An instruction with its operands, in the order of the text.

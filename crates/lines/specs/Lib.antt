@@ -1,0 +1,2 @@
+-- What a line says, by the types of the code.
+pub mod Items
