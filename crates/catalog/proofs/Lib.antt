@@ -1,0 +1,3 @@
+-- Lemmas on the tables of a text.
+pub mod Pushes
+pub mod Laws

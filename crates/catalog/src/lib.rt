@@ -1,0 +1,3 @@
+// The libraries of a text, in tables of lent words.
+pub mod adds;
+pub mod tables;

@@ -1,0 +1,4 @@
+// Tables, queues and indexes in words that the caller lends.
+pub mod index;
+pub mod queue;
+pub mod table;
