@@ -1,3 +1,4 @@
 -- Lemmas on the tables of a text.
 pub mod Pushes
 pub mod Laws
+pub mod Drafting

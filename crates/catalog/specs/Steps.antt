@@ -43,6 +43,14 @@ pub record Took (t u : Tables) (i : Item) : Type 0 where
   pub wide : Wide u
   pub room : (o n : ℕ) → Room t o (n + 1) → Room u o n
 
+-- a draft with a reach at line n
+abbrev pub raise : Draft → ℕ → ℕ → Draft
+raise o n r = pick (ltb (o .top) r) (record { name = o .name; inward = o .inward; needs = o .needs; defs = o .defs; inits = o .inits; finis = o .finis; cells = o .cells; top = r; line = n }) o
+
+-- a draft of a library that looks in itself first
+abbrev pub turn : Draft → Draft
+turn o = record { name = o .name; inward = true; needs = o .needs; defs = o .defs; inits = o .inits; finis = o .finis; cells = o .cells; top = o .top; line = o .line }
+
 -- the draft o, with line n that has the item i, became r
 pub record Put (t u : Tables) (n : ℕ) (o r : Draft) (i : Item) : Type 0 where
   pub text : u .text .now ≡ t .text .now
