@@ -2,3 +2,7 @@
 pub mod Pushes
 pub mod Laws
 pub mod Drafting
+pub mod Walks
+pub mod Looking
+pub mod Linewise
+pub mod Going

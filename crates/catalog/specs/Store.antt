@@ -1,15 +1,18 @@
 -- The libraries that tables stand for.
 use mathlib.Core.Path.{_≡_}
-use mathlib.Core.List.{List, [], _∷_, _++_, map}
+use mathlib.Core.Bool.{true, false}
+use mathlib.Core.List.{List, map}
 use mathlib.Core.Option.{some, none}
 use mathlib.Core.Option as core
-use Prim.Native.Nat.{ℕ, _+_, _*_, _≤_, _<_}
+use Prim.Native.Nat.{ℕ, _+_, _*_, _≤_}
 use lib.ListN.{length, getD, drop}
 use lib.Dec.{eqb}
 use Rattle.std.specs.declared.option.Option.{Option}
 use Rattle.std.specs.declared.option.Option.the-variants as opt
 use Rattle.std.specs.shelf.Lists.{between, All}
-use Rattle.base.specs.Names.{Name}
+use Rattle.base.specs.Choices as choices
+use Rattle.base.specs.Lists.{nth}
+use Rattle.base.specs.Names.{Name, same}
 use Rattle.text.specs.Readers.{bytes}
 use Rattle.library.specs.Library.{Definition, Cell, Library}
 use Rattle.library.specs.Text as reading
@@ -120,6 +123,11 @@ pub record Room (t : Tables) (o n : ℕ) : Type 0 where
   pub finis : t .finis .len + n ≤ t .rows
   pub cells : t .cells .len + n ≤ t .rows
 
+-- the index has room for as many libraries
+pub record Roomy (t : Tables) (x : Index) : Type 0 where
+  pub next : t .rows ≤ length (x .next .now)
+  pub heads : t .rows ≤ length (x .heads .now)
+
 -- the bucket of each library's name, of so many
 abbrev pub buckets : ℕ → List Library → List ℕ
 buckets c ls = map (λ (l : Library). bucket-of (l .name) c) ls
@@ -127,5 +135,8 @@ buckets c ls = map (λ (l : Library). bucket-of (l .name) c) ls
 -- the index has the libraries of the tables by their names
 pub record Named (t : Tables) (x : Index) : Type 0 where
   pub holds : Holds x (buckets (length (x .heads .now)) (libraries t)) (t .libs .len)
-  pub room : t .rows ≤ length (x .next .now)
-  pub count : t .rows ≤ length (x .heads .now)
+  pub within : t .libs .len ≤ length (x .heads .now)
+
+-- library k has the name x
+abbrev pub Has-name : List Library → ℕ → Name → Type 0
+Has-name ls k x = choices.opt (nth ls k) false (λ l. same (l .name) x) ≡ true

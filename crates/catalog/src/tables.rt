@@ -1,3 +1,4 @@
+use lent::index::Index;
 use lent::table::Table;
 use text::reader::Span;
 
@@ -29,11 +30,11 @@ pub struct Tables<'t, 'a> {
     pub cells: Table<'a, 6>,
 }
 
-// From which row of a table to which the parts of a library go.
-#[derive(Clone, Copy)]
-pub struct Bounds {
-    pub start: usize,
-    pub end: usize,
+// The tables, and an index of the libraries by name.
+#[derive(Drop)]
+pub struct Parts<'t, 'a> {
+    pub tables: Tables<'t, 'a>,
+    pub names: Index<'a>,
 }
 
 // How many parts a library has.

@@ -1,7 +1,7 @@
 -- Rows of a fixed width: how many there are, one read, one written, one more.
 use borrow.Rule.Slice.PartMut.{putMid}
 use lib.ListN.{length, getD, set, take, drop}
-use mathlib.Core.List.{List, [], _∷_, _++_, map}
+use mathlib.Core.List.{List, [], _∷_, _++_}
 use mathlib.Core.Logic.{_≢_, ⊎-elim}
 use mathlib.Core.Option.{some, none}
 use mathlib.Core.Path.{_≡_, refl, sym, ap, _∙_}
@@ -16,7 +16,6 @@ use Rattle.std.proofs.shelf.Edits.{length-between}
 use Rattle.std.proofs.shelf.Lists.{length-append, length-take-le, length-drop, length-set, getD-take, getD-drop, getD-set-same, getD-set-other, set-past, take-all}
 use Rattle.std.proofs.shelf.Parts.{between-is, take-putMid-below, drop-putMid, between-putMid}
 use Rattle.std.proofs.shelf.Tests.{cases-lt, cases-eq}
-use Rattle.std.specs.Iters.{counting}
 
 -- a row lies below the next one's start
 pub row-end : (w i n : ℕ) → i < n → w * i + w ≤ w * n

@@ -10,16 +10,16 @@ use Rattle.base.specs.Choices.{pick}
 use Rattle.base.specs.Names.{Name}
 use Rattle.lent.specs.declared.index.Index.{Index}
 
--- the number of a name, which begins at h
+-- the hash of a name's bytes, going on from h
 abbrev pub hash : ℕ → Name → ℕ
 hash h [] = h
 hash h (c ∷ cs) = hash ((h * 31 + c) % 4294967296) cs
 
--- the bucket of a name, of so many
+-- the bucket of a name, of count buckets; 0 where there are none
 abbrev pub bucket-of : Name → ℕ → ℕ
 bucket-of w count = pick (eqb count 0) 0 (hash 7 w % count)
 
--- the entry that a word stands for
+-- the entry that a word stands for: one less, and none at 0
 abbrev pub entry-of : ℕ → Option ℕ
 entry-of zero = none
 entry-of (suc e) = some e

@@ -2,3 +2,5 @@
 pub mod index;
 pub mod queue;
 pub mod table;
+#[cfg(test)]
+mod tests;

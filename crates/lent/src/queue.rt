@@ -3,7 +3,8 @@ ghost use Prim.Native.Nat.{_≤_};
 
 pub mod methods;
 
-// Words first in, first out: those from head to tail are still to come. A place is used once, so as many can be pushed as there are lent words.
+// Words first in, first out: those from head to tail are still to come.
+// A place is used once, so in all as many can be pushed as there are lent words.
 #[derive(Drop)]
 pub struct Queue<'a> {
     words: &'a mut [u64],

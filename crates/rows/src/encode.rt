@@ -123,11 +123,7 @@ fn words_of(cell: Cell<Span>) -> [u64; 6]
 {
     match cell {
         Cell::Number(value) => row(24, n(value), 0, 0),
-        Cell::Ref(symbol, offset, must) => symbol_row(
-            25 + u64::from(must),
-            symbol,
-            n(offset),
-        ),
+        Cell::Ref(symbol, offset, must) => symbol_row(25 + u64::from(must), symbol, n(offset)),
         Cell::At(to) => row(27, k(to), 0, 0),
         Cell::Slot(symbol) => symbol_row(28, symbol, 0),
         Cell::Name(name) => row(29, name.start as u64, name.end as u64, 0),

@@ -8,7 +8,7 @@ ghost use Rattle.base.specs.Choices.{found, pick};
 ghost use Rattle.lent.specs.Indexes.{bucket-of, entry-of, Holds, Is-newest};
 use crate::index::Index;
 
-// The bucket of a name, of so many.
+// The bucket of a name, of count buckets; 0 where there are none.
 pub fn bucket(name: &[u8], count: usize) -> usize
     ensures value { λ r. ⌜ r ≡ bucket-of (now (name .entry)) count ⌝ }
     ensures bound { λ r. ⌜ (0 < count → r < count) ⌝ }
@@ -78,7 +78,7 @@ impl<'a> Index<'a> {
     // The next older entry in the bucket of entry k.
     pub fn older(&self, k: usize) -> Option<usize>
         ensures value { λ r. ⌜ found r ≡ entry-of (getD (now (now (self .entry) .next)) k 0) ⌝ }
-        ensures newest { λ r. ⌜ ((bs : List ℕ) (n : ℕ) → Holds (now (self .entry)) bs n → k < n → Is-newest bs (getD bs k 0) k (found r)) ⌝ }
+        ensures newest { λ r. ⌜ ((bs : List ℕ) (n h : ℕ) → Holds (now (self .entry)) bs n → k < n → getD bs k 0 ≡ h → Is-newest bs h k (found r)) ⌝ }
     {
         entry_at(self.next, k)
     }

@@ -58,8 +58,8 @@ impl<'a, const W: usize> Table<'a, W> {
         if i >= self.len {
             return None;
         }
-        let at = W * i;
-        Some(&self.words[at..at + W])
+        let start = W * i;
+        Some(&self.words[start..start + W])
     }
 
     // Another row in the place of row i; false where there is no row i.

@@ -1,6 +1,5 @@
 use lib.ListN.{getD}
 use mathlib.Core.Path.{_≡_, sym, ap, _∙_}
-use native.Mathlib.Omega.{arith}
 use Rattle.base.specs.Choices.{found}
 use Rattle.lent.proofs.index.methods.entry_at.Needs as need
 use Rattle.lent.specs.Indexes.{entry-of}

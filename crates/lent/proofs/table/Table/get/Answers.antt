@@ -6,6 +6,7 @@ use mathlib.Core.Path.{_≡_, sym, ap, _∙_}
 use native.Mathlib.Omega.{arith}
 use Prim.Native.Nat.{ℕ, _<_, _≤_}
 use Rattle.base.proofs.Lists.{nth-getD}
+use Rattle.base.specs.Lists.{nth}
 use Rattle.lent.proofs.table.Table.get.Needs as need
 use Rattle.lent.specs.Tables.{rows-in}
 use Rattle.std.specs.declared.option.Option.the-variants.{Some, None}
@@ -23,5 +24,5 @@ returns g c =
     let rs = rows-in (g .W) (c .args .self .now) in
     let row = c .in-Continue-row .field-0 .now in
     let s = c .in-Continue-row .ensures tt in
-    let e : getD rs (c .args .i) [] ≡ row = nth-getD rs (c .args .i) row [] (sym (s .value)) in
+    let e : getD rs (c .args .i) [] ≡ row = nth-getD rs (c .args .i) row [] (sym {b = nth rs (c .args .i)} (s .value)) in
     simp (c .copied .ensures) (word (c .args .self .now .len) (g .W) (c .args .i) (c .args .j) rs row (c .get .result) (s .size .0) (s .size .1) e (c .get .ensures .finds))

@@ -6,14 +6,14 @@ use Rattle.lent.proofs.table.Table.row.Needs as need
 pub returns-then-i-self : need.returns-then-i-self
 returns-then-i-self g c = record { value = sym (rows-past (g .W) (c .args .self .now .words .now) (c .args .self .now .len) (c .args .i) (omega arith)); size = omega arith }
 
-pub mul-at : need.mul-at
-mul-at g c = omega (arith, row-end (g .W) (c .args .i) (c .args .self .now .len) (omega arith))
+pub mul-start : need.mul-start
+mul-start g c = omega (arith, row-end (g .W) (c .args .i) (c .args .self .now .len) (omega arith))
 
 pub add-result : need.add-result
 add-result g c = omega (arith, row-end (g .W) (c .args .i) (c .args .self .now .len) (omega arith))
 
-pub offset-self-at : need.offset-self-at
-offset-self-at g c = omega (arith, row-end (g .W) (c .args .i) (c .args .self .now .len) (omega arith))
+pub offset-self-start : need.offset-self-start
+offset-self-start g c = omega (arith, row-end (g .W) (c .args .i) (c .args .self .now .len) (omega arith))
 
 pub part-result-end : need.part-result-end
 part-result-end g c = omega (arith, row-end (g .W) (c .args .i) (c .args .self .now .len) (omega arith))
