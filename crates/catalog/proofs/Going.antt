@@ -2,12 +2,12 @@
 use mathlib.Core.Path.{_≡_, refl, sym, ap, subst, _∙_}
 use mathlib.Core.List.{List, [], _∷_, map}
 use mathlib.Core.Option.{none}
-use Prim.Native.Nat.{ℕ, suc, _+_, _*_, _/_, _<_, _≤_}
+use Prim.Native.Nat.{ℕ, suc, _+_, _/_, _<_, _≤_}
 use native.Mathlib.Omega.{arith}
 use lib.ListN.{length}
 use Rattle.std.specs.declared.option.Option.{Option}
 use Rattle.std.specs.declared.option.Option.the-variants as opt
-use Rattle.std.specs.declared.result.Result.the-variants.{Ok, Err}
+use Rattle.std.specs.declared.result.Result.the-variants.{Err}
 use Rattle.std.specs.shelf.Lists.{All}
 use Rattle.std.proofs.shelf.Parts.{between-to-end}
 use Rattle.base.specs.Choices.{on-ok}
@@ -16,16 +16,16 @@ use Rattle.text.specs.Words.{cut, words-of, lines-of}
 use Rattle.text.specs.Readers.{bytes, pieces, size}
 use Rattle.text.specs.declared.reader.Reader.{Reader}
 use Rattle.text.specs.declared.reader.Span.{Span}
-use Rattle.library.specs.Text.{Progress, line, lines, finished, nothing-read, read}
+use Rattle.library.specs.Text.{line, lines, finished, nothing-read, read}
 use Rattle.library.specs.declared.faults.BadLine.{BadLine}
 use Rattle.lent.specs.Tables.{rows-of}
 use Rattle.lent.specs.Indexes.{Holds}
 use Rattle.lent.proofs.Rows.{rows-none}
-use Rattle.catalog.specs.declared.tables.Tables.{Tables}
-use Rattle.catalog.specs.declared.tables.Parts.{Parts}
-use Rattle.catalog.specs.declared.tables.Draft.{Draft}
-use Rattle.catalog.specs.Store.{Store, store, library-at, done, progress, libraries, Inside, Sound, Fits, Room, opened, buckets, Named}
-use Rattle.catalog.specs.Steps.{Kept, Ready, Finished, Lined, takes-rows, Blank, Whole}
+use Rattle.tables.specs.declared.tables.Tables.{Tables}
+use Rattle.catalog.specs.declared.parts.Parts.{Parts}
+use Rattle.tables.specs.declared.tables.Draft.{Draft}
+use Rattle.tables.specs.Store.{store, library-at, done, progress, libraries, Inside, Sound, Room, opened, buckets, Named}
+use Rattle.catalog.specs.Steps.{Kept, Finished, Lined, takes-rows, Blank, Whole}
 use Rattle.catalog.proofs.Linewise.{room-less}
 
 -- so far all went well: what is left of the text x gives what all of it gives

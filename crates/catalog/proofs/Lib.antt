@@ -1,8 +1,4 @@
--- Lemmas on the tables of a text.
-pub mod Pushes
-pub mod Laws
-pub mod Drafting
-pub mod Walks
-pub mod Looking
+-- Lemmas on reading a whole text.
 pub mod Linewise
 pub mod Going
+pub mod Looking

@@ -1,12 +1,12 @@
 -- One line after the other: what each does to the tables, and that it is what the text says.
 use mathlib.Core.Path.{_≡_, refl, sym, ap, subst, _∙_}
 use mathlib.Core.Bool.{Bool, true, false, _&&_}
-use mathlib.Core.List.{List, [], _∷_, _++_, map}
-use mathlib.Core.Option.{some, none}
+use mathlib.Core.List.{List, [], _∷_, _++_}
+use mathlib.Core.Option.{some}
 use Prim.Native.Nat.{ℕ, zero, suc, _+_, _<_, _≤_}
 use native.Mathlib.Omega.{arith}
 use lib.ListN.{length, getD, set}
-use lib.Dec.{eqb, ltb}
+use lib.Dec.{ltb}
 use Rattle.std.specs.declared.option.Option.{Option}
 use Rattle.std.specs.declared.option.Option.the-variants as opt
 use Rattle.std.specs.declared.result.Result.{Result}
@@ -15,7 +15,6 @@ use Rattle.std.proofs.shelf.Lists.{length-map, length-set, map-push}
 use Rattle.std.proofs.shelf.Tests.{lt-ltb, and-from}
 use Rattle.base.specs.Choices as choices
 use Rattle.base.specs.Choices.{pick, is-some, on-ok}
-use Rattle.base.specs.Lists.{nth}
 use Rattle.base.specs.Names.{Name, same}
 use Rattle.text.specs.Words.{cut, full, words-of}
 use Rattle.text.specs.Readers.{bytes, pieces, words}
@@ -24,18 +23,18 @@ use Rattle.text.specs.declared.reader.Span.{Span}
 use Rattle.library.specs.Library.{Library, find-library}
 use Rattle.library.specs.Keywords.{k-lib}
 use Rattle.library.specs.Lines.{takes, a-word, end-line, Item, item-line}
-use Rattle.library.specs.Text.{Progress, finished, lib-words, lib-line, library-item, line, at-line-number, checked, sized, drafted, new-draft, bad}
-use Rattle.library.specs.Text as reading
+use Rattle.library.specs.Text.{Progress, lib-words, lib-line, library-item, line, at-line-number, checked, sized, drafted, new-draft, bad}
 use Rattle.library.specs.declared.faults.LineFault.the-variants.{OutsideLibrary, DuplicateLibrary}
 use Rattle.library.specs.declared.faults.BadLine.{BadLine}
 use Rattle.lent.specs.Indexes.{bucket-of, Holds}
 use Rattle.lent.specs.declared.index.Index.{Index}
-use Rattle.catalog.specs.declared.tables.Tables.{Tables}
-use Rattle.catalog.specs.declared.tables.Parts.{Parts}
-use Rattle.catalog.specs.declared.tables.Draft.{Draft}
-use Rattle.catalog.specs.Store.{Store, store, library-from, draft-of, drafts, progress, libraries, Sound, Starts, Fits, Wide, Room, opened, buckets, Named, Has-name}
-use Rattle.catalog.specs.Steps.{Put, Closed, Kept, Shut, Finished, Began, Itemed, Lined, takes-rows, mute}
-use Rattle.catalog.proofs.Looking.{count-is}
+use Rattle.tables.specs.declared.tables.Tables.{Tables}
+use Rattle.catalog.specs.declared.parts.Parts.{Parts}
+use Rattle.tables.specs.declared.tables.Draft.{Draft}
+use Rattle.tables.specs.Store.{store, library-from, draft-of, drafts, progress, libraries, Starts, Room, opened, buckets, Named, Has-name}
+use Rattle.tables.specs.Steps.{Put, Closed}
+use Rattle.catalog.specs.Steps.{Kept, Shut, Finished, Began, Itemed, Lined, takes-rows, mute}
+use Rattle.tables.proofs.Looking.{count-is}
 
 -- the index with one library more
 named-more : (t u : Tables) (x y : Index) (d : Draft) (h : ℕ) → Named t x → Closed t u d → t .libs .len + 1 ≤ length (x .heads .now) → h ≡ bucket-of (library-from (store t) d .name) (length (x .heads .now)) → length (y .heads .now) ≡ length (x .heads .now) → ((bs : List ℕ) → length bs ≡ t .libs .len → Holds x bs (t .libs .len) → Holds y (bs ++ h ∷ []) (t .libs .len + 1)) → Named u y

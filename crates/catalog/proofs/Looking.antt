@@ -1,6 +1,5 @@
 -- A library's row, and what stands in the tables of its parts.
 use mathlib.Core.Path.{_≡_, refl, sym, ap, _∙_}
-use mathlib.Core.Bool.{Bool, true, false}
 use mathlib.Core.List.{List, [], _∷_, map}
 use mathlib.Core.Option.{Option, some, none}
 use mathlib.Core.Logic.{⊎-elim}
@@ -9,29 +8,14 @@ use native.Mathlib.Omega.{arith}
 use lib.Dec.{ltb}
 use lib.ListN.{length, getD, take, drop}
 use Rattle.std.specs.shelf.Lists.{between}
-use Rattle.std.proofs.shelf.Lists.{length-map, length-take, length-drop}
+use Rattle.std.proofs.shelf.Lists.{length-take, length-drop}
 use Rattle.std.proofs.shelf.Tests.{cases-lt, lt-ltb, le-ltb}
 use Rattle.base.specs.Choices.{on-some, over, guard}
 use Rattle.base.specs.Lists.{nth}
 use Rattle.base.proofs.Lists.{nth-map}
 use Rattle.library.specs.Library.{Library}
-use Rattle.lent.specs.Tables.{rows-in}
-use Rattle.lent.proofs.Rows.{rows-len}
-use Rattle.catalog.specs.declared.tables.Tables.{Tables}
-use Rattle.catalog.specs.Store.{Store, store, library-at, done, libraries}
+use Rattle.tables.specs.Store.{Store, library-at, done}
 use Rattle.catalog.specs.Looks.{part-row, part-at}
-
--- where there is no row there is no library
-pub no-row : {X : Type 0} (s : Store) (i : ℕ) (f : Library → Option X) → none ≡ nth (s .libs) i → none ≡ on-some (nth (done s) i) f
-no-row s i f e = sym (ap (λ o. on-some o f) (nth-map (library-at s) (s .libs) i ∙ ap (over (library-at s)) (sym e)))
-
--- a row's library
-pub row-is : {X : Type 0} (s : Store) (i : ℕ) (r : List ℕ) (f : Library → Option X) → some r ≡ nth (s .libs) i → f (library-at s r) ≡ on-some (nth (done s) i) f
-row-is s i r f e = sym (ap (λ o. on-some o f) (nth-map (library-at s) (s .libs) i ∙ ap (over (library-at s)) (sym e)))
-
-pub count-is : (t : Tables) → length (libraries t) ≡ t .libs .len
-unfolding store
-count-is t = length-map (rows-in 13 (t .libs)) (library-at (store t)) ∙ rows-len 13 (t .libs .words .now) (t .libs .len)
 
 nth-none : {X : Type 0} (n j : ℕ) (xs : List X) → n ≤ j → nth (take n xs) j ≡ none
 nth-none zero j xs h = refl

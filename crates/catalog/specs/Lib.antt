@@ -1,4 +1,3 @@
--- What the tables of a text stand for.
-pub mod Store
+-- Reading a whole text.
 pub mod Steps
 pub mod Looks

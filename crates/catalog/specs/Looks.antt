@@ -7,8 +7,8 @@ use lib.Dec.{ltb}
 use Rattle.base.specs.Choices.{on-some, guard}
 use Rattle.base.specs.Lists.{nth}
 use Rattle.library.specs.Library.{Library}
-use Rattle.catalog.specs.Store.{Store}
-use Rattle.catalog.specs.declared.tables.Sizes.{Sizes}
+use Rattle.tables.specs.Store.{Store}
+use Rattle.catalog.specs.declared.parts.Sizes.{Sizes}
 
 -- the row of part j of library i, whose bounds stand in words w and w + 1
 abbrev pub part-row : Store → ℕ → ℕ → ℕ → Option ℕ

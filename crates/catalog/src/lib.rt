@@ -1,11 +1,7 @@
-// The libraries of a text, in tables of lent words.
-pub mod adds;
+// The libraries of a text, read into lent words.
 pub mod catalog;
-pub mod drafts;
-pub mod lining;
-pub mod looks;
-pub mod names;
-pub mod opening;
-pub mod reach;
-pub mod reading;
-pub mod tables;
+mod lining;
+mod looks;
+mod opening;
+pub mod parts;
+mod reading;

@@ -11,12 +11,12 @@ ghost use Rattle.base.specs.Lists.{nth};
 ghost use Rattle.library.specs.Library.{Library, find-library};
 ghost use Rattle.library.specs.Text.{read};
 ghost use Rattle.library.specs.Views.{cell-no, definition-of, cell-of};
-ghost use Rattle.catalog.specs.Store.{libraries, Has-name};
+ghost use Rattle.tables.specs.Store.{libraries, Has-name};
 ghost use Rattle.catalog.specs.Looks.{part-at, sizes-of};
 ghost use Rattle.catalog.specs.Steps.{Failed};
 use crate::catalog::Catalog;
-use crate::tables::Parts;
-use crate::tables::Sizes;
+use crate::parts::Parts;
+use crate::parts::Sizes;
 use library::faults::ReadFault;
 use library::types::Cell;
 use library::types::CellNo;
@@ -62,54 +62,5 @@ impl<'t, 'a> Catalog<'t, 'a> {
         ensures { λ r. ⌜ found (mapped now r) ≡ on-some (nth (libraries (now (self .entry) .parts .tables)) (id .0)) (λ (l : Library). some (l .name)) ⌝ }
     {
         self.parts.tables.name(id.0)
-    }
-
-    // Whether a library looks in itself first.
-    pub fn inward(&self, id: LibraryId) -> Option<bool>
-        ensures { λ r. ⌜ found r ≡ on-some (nth (libraries (now (self .entry) .parts .tables)) (id .0)) (λ (l : Library). some (l .inward)) ⌝ }
-    {
-        self.parts.tables.inward(id.0)
-    }
-
-    // How many parts a library has.
-    pub fn sizes(&self, id: LibraryId) -> Option<Sizes>
-        ensures { λ r. ⌜ found r ≡ on-some (nth (libraries (now (self .entry) .parts .tables)) (id .0)) (λ l. some (sizes-of l)) ⌝ }
-    {
-        self.parts.tables.sizes(id.0)
-    }
-
-    // Name j of those that a library needs.
-    pub fn need(&self, id: LibraryId, j: usize) -> Option<&'t [u8]>
-        ensures { λ r. ⌜ found (mapped now r) ≡ part-at (libraries (now (self .entry) .parts .tables)) (id .0) (λ l. l .needs) j ⌝ }
-    {
-        self.parts.tables.need(id.0, j)
-    }
-
-    // Definition j of a library.
-    pub fn definition(&self, id: LibraryId, j: usize) -> Option<Definition<&'t [u8]>>
-        ensures { λ r. ⌜ over (definition-of (λ x. x .now)) (found r) ≡ part-at (libraries (now (self .entry) .parts .tables)) (id .0) (λ l. l .defs) j ⌝ }
-    {
-        self.parts.tables.definition(id.0, j)
-    }
-
-    // The cell of initializer j of a library.
-    pub fn initializer(&self, id: LibraryId, j: usize) -> Option<CellNo>
-        ensures { λ r. ⌜ over cell-no (found r) ≡ part-at (libraries (now (self .entry) .parts .tables)) (id .0) (λ l. l .inits) j ⌝ }
-    {
-        self.parts.tables.initializer(id.0, j)
-    }
-
-    // The cell of finalizer j of a library.
-    pub fn finalizer(&self, id: LibraryId, j: usize) -> Option<CellNo>
-        ensures { λ r. ⌜ over cell-no (found r) ≡ part-at (libraries (now (self .entry) .parts .tables)) (id .0) (λ l. l .finis) j ⌝ }
-    {
-        self.parts.tables.finalizer(id.0, j)
-    }
-
-    // Cell j of a library.
-    pub fn cell(&self, id: LibraryId, j: usize) -> Option<Cell<&'t [u8]>>
-        ensures { λ r. ⌜ over (cell-of (λ x. x .now)) (found r) ≡ part-at (libraries (now (self .entry) .parts .tables)) (id .0) (λ l. l .cells) j ⌝ }
-    {
-        self.parts.tables.cell(id.0, j)
     }
 }

@@ -1,19 +1,19 @@
 -- Registers, numbers and cells that a line names are in range.
-use mathlib.Core.Path.{_≡_, refl, ap, subst}
+use mathlib.Core.Path.{_≡_, refl, subst}
 use mathlib.Core.Bool.{Bool, true, false}
 use mathlib.Core.List.{List, [], _∷_}
 use mathlib.Core.Option.{Option, some, none}
-use Prim.Native.Nat.{ℕ, suc, _<_, _≤_}
+use Prim.Native.Nat.{ℕ, _<_}
 use native.Mathlib.Omega.{arith}
 use lib.Dec.{ltb}
 use Rattle.std.specs.declared.result.Result.the-variants.{Ok, Err}
-use Rattle.base.specs.Choices.{pick, opt, on-some, guard, on-ok, If-ok}
+use Rattle.base.specs.Choices.{opt, on-some, guard, on-ok, If-ok}
 use Rattle.base.specs.Names.{Name, same}
 use Rattle.base.proofs.Choices.{pick-ok, on-ok-if}
 use Rattle.text.specs.Words.{digits, below}
-use Rattle.library.specs.Library.{Instruction, Cell, number, ref, at, slot, named, instruction}
+use Rattle.library.specs.Library.{Instruction, Cell, at}
 use Rattle.library.specs.Keywords.{k-all, k-inner, k-must, k-may, k-word, k-ref, k-at, k-slot, k-name, k-inward, k-needs, k-def, k-init, k-fini}
-use Rattle.library.specs.Lines.{Read, number-below, a-register, a-cell, a-number, a-word, either, then, end-line, reg-num, reg-reg-num, reg-num-reg, reg-cell, three-regs, two-regs, one-cell, one-reg, reg-cell-choice, reg-reg-cell, ternary, unary-of, operands, opcode-of, instruction-line, cell-line, Item, inward, needs, define, init, fini, cell, item-line}
+use Rattle.library.specs.Lines.{Read, number-below, a-register, a-cell, a-number, a-word, either, then, end-line, three-regs, one-reg, ternary, unary-of, operands, opcode-of, instruction-line, cell-line, Item, inward, needs, define, init, fini, cell, item-line}
 use Rattle.library.specs.Text.{cell-reach, item-reach}
 use Rattle.library.specs.Fine.{Fine, Cell-fine}
 use Rattle.library.specs.declared.faults.LineFault.{LineFault}

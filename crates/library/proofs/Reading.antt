@@ -1,5 +1,5 @@
 -- Registers, numbers and cells of the libraries that a text gives are in range.
-use mathlib.Core.Path.{_≡_, refl, ap, subst}
+use mathlib.Core.Path.{_≡_, refl, subst}
 use mathlib.Core.Bool.{Bool, true, false}
 use mathlib.Core.List.{List, [], _∷_, _++_, map}
 use mathlib.Core.Option.{Option, some, none}
@@ -7,18 +7,17 @@ use Prim.Native.Nat.{ℕ, suc, _<_, _≤_}
 use native.Mathlib.Omega.{arith}
 use lib.ListN.{length}
 use lib.Dec.{eqb, ltb, leb}
-use Rattle.std.specs.declared.result.Result.{Result}
 use Rattle.std.specs.declared.result.Result.the-variants.{Ok, Err}
-use Rattle.base.specs.Choices.{pick, opt, is-some, on-ok, ok-part, If-some, If-ok}
+use Rattle.base.specs.Choices.{pick, opt, on-ok, If-some, If-ok}
 use Rattle.base.specs.Lists.{Each}
 use Rattle.base.specs.Names.{Name, same}
 use Rattle.base.proofs.Choices.{pick-ok, on-ok-if, ok-part-inv}
 use Rattle.base.proofs.Lists.{each-push, each-like}
 use Rattle.text.specs.Words.{lines-of, words-of}
-use Rattle.library.specs.Library.{Cell, number, ref, at, slot, named, instruction, Library, find-library}
+use Rattle.library.specs.Library.{Cell, number, ref, at, slot, named, instruction, Library}
 use Rattle.library.specs.Keywords.{k-lib}
 use Rattle.library.specs.Lines.{Read, Item, inward, needs, define, init, fini, cell, item-line}
-use Rattle.library.specs.Text.{item-reach, apply, bad, Draft, Progress, at-line-number, new-draft, raised, with-library, drafted, checked, finished, sized, library-item, lib-words, lib-line, line, lines, nothing-read, read, reads}
+use Rattle.library.specs.Text.{item-reach, apply, bad, Draft, Progress, at-line-number, with-library, drafted, checked, finished, sized, library-item, lib-words, lib-line, line, lines, nothing-read, read, reads}
 use Rattle.library.specs.Fine.{Cell-fine, Library-fine}
 use Rattle.library.specs.declared.faults.LineFault.the-variants.{OutsideLibrary, TooManyCells, NoSuchCell}
 use Rattle.library.proofs.Operands.{Item-fine, Item-own, item-line-fine}

@@ -1,10 +1,10 @@
 -- A library: its cells, what it defines, what it needs, what is called first and last.
-use mathlib.Core.Bool.{Bool, true, false}
+use mathlib.Core.Bool.{Bool}
 use mathlib.Core.List.{List, [], _∷_, _++_}
 use mathlib.Core.Option.{Option, some, none}
 use Prim.Native.Nat.{ℕ, _+_}
 use lib.ListN.{length}
-use Rattle.base.specs.Choices.{pick, opt, on-some}
+use Rattle.base.specs.Choices.{pick, on-some}
 use Rattle.base.specs.Lists.{nth}
 use Rattle.base.specs.Names.{Name, same}
 

@@ -8,7 +8,7 @@ use Rattle.std.specs.declared.result.Result.the-variants.{Ok, Err}
 use Rattle.base.specs.Choices.{pick, opt, on-ok}
 use Rattle.base.specs.Names.{Name, same}
 use Rattle.text.specs.Words.{below}
-use Rattle.library.specs.Library.{Symbol, Definition, Cell, number, ref, at, slot, named, instruction, Library, Instruction}
+use Rattle.library.specs.Library.{Symbol, Definition, Cell, number, ref, at, slot, named, instruction, Instruction}
 use Rattle.library.specs.Library as library
 use Rattle.library.specs.Keywords.{k-inward, k-needs, k-def, k-init, k-fini, k-word, k-ref, k-at, k-slot, k-name, k-all, k-inner, k-must, k-may, k-set, k-get, k-sto, k-own, k-add, k-sub, k-mul, k-less, k-same, k-move, k-jump, k-if0, k-call, k-callr, k-ret, k-push, k-pop, k-out, k-in, k-open, k-find, k-close, k-end}
 use Rattle.library.specs.declared.faults.LineFault.{LineFault}

@@ -1,6 +1,5 @@
 -- What the types of the code stand for.
 use Prim.Native.Nat.{ℕ}
-use mathlib.Core.List.{List}
 use Rattle.base.specs.Names.{Name}
 use Rattle.library.specs.Library as library
 use Rattle.library.specs.declared.types.Octal.{Octal}

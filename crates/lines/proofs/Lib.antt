@@ -1,1 +1,1 @@
--- Lemmas on lines.
+-- No lemmas: all is found.

@@ -7,10 +7,10 @@ ghost use Rattle.library.specs.Lines.{needs-line, def-line, call-line, item-lin
 ghost use Rattle.library.specs.Views.{cell-no};
 ghost use Rattle.lines.specs.Items.{item-of};
 use crate::cells::cell;
-use crate::operands::cell as cell_number;
-use crate::operands::end;
-use crate::operands::inner;
-use crate::operands::word;
+use operands::cell as cell_number;
+use operands::end;
+use operands::inner;
+use operands::word;
 use library::faults::LineFault;
 use library::types::CellNo;
 use library::types::Definition;

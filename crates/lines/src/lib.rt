@@ -1,7 +1,3 @@
 // A line of a library, read into typed parts.
-pub mod cells;
-pub mod instructions;
+mod cells;
 pub mod items;
-pub mod keywords;
-pub mod operands;
-pub mod shapes;

@@ -1,19 +1,18 @@
 use mathlib.Core.Path.{_≡_, refl, sym, ap, _∙_}
-use mathlib.Core.Bool.{Bool, true, false}
-use mathlib.Core.Logic.{_≢_, ⊎-elim}
+use mathlib.Core.Bool.{true, false}
+use mathlib.Core.Logic.{⊎-elim}
 use mathlib.Core.List.{List, [], _∷_, _++_}
-use Prim.Native.Nat.{ℕ, zero, suc, _+_, _-_, _<_, _≤_}
+use Prim.Native.Nat.{ℕ, suc, _+_, _-_, _<_, _≤_}
 use native.Mathlib.Omega.{arith}
 use native.Mathlib.Numerals.{add-one}
-use native.Mathlib.Nat.{sub-zero}
 use lib.ListN.{length, getD, take, drop}
 use lib.Dec.{eqb, ltb}
-use Rattle.std.proofs.shelf.Lists.{at-drop-more, at-drop-all, append-nil, append-assoc, take-rest, length-drop}
+use Rattle.std.proofs.shelf.Lists.{at-drop-more, at-drop-all, append-nil, append-assoc}
 use Rattle.std.proofs.shelf.Tests.{eq-eqb, ne-eqb, lt-ltb, le-ltb, cases-lt}
 use Rattle.base.specs.Choices.{pick}
 use Rattle.base.specs.Names.{Name}
 use Rattle.text.specs.Words.{cut, full}
-use Rattle.text.specs.Pieces.{run, parts, left}
+use Rattle.text.specs.Pieces.{run, parts}
 
 pub run-le : (c : ℕ) (t : List ℕ) → run c t ≤ length t
 run-le c [] = omega arith

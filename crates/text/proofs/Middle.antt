@@ -1,15 +1,15 @@
 use mathlib.Core.Path.{_≡_, refl, sym, ap, _∙_}
-use mathlib.Core.Bool.{Bool, true, false}
+use mathlib.Core.Bool.{Bool, true}
 use mathlib.Core.List.{List, [], _∷_}
 use Prim.Native.Nat.{ℕ, suc, _+_, _-_, _<_, _≤_}
 use native.Mathlib.Omega.{arith}
 use lib.ListN.{length, take, drop}
 use Rattle.std.specs.shelf.Lists.{between}
-use Rattle.std.proofs.shelf.Lists.{take-take, drop-take, drop-drop, length-drop}
+use Rattle.std.proofs.shelf.Lists.{take-take, drop-take, drop-drop}
 use Rattle.std.proofs.shelf.Edits.{length-between}
 use Rattle.text.specs.Pieces.{run, parts, left}
 use Rattle.base.specs.Names.{Name}
-use Rattle.text.specs.Words.{cut, full}
+use Rattle.text.specs.Words.{full}
 use Rattle.text.proofs.Cuts.{parts-first, parts-last, run-le, full-more}
 
 front : (t : List ℕ) (p q n : ℕ) → n ≤ q - p → take n (between p q t) ≡ between p (p + n) t

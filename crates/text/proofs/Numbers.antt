@@ -1,15 +1,14 @@
 use mathlib.Core.Path.{_≡_, refl, sym, ap, _∙_}
-use mathlib.Core.Bool.{Bool, true, false, _&&_}
-use mathlib.Core.Logic.{_⊎_, inl, inr, ⊎-elim}
-use mathlib.Core.List.{List, [], _∷_, _++_}
+use mathlib.Core.Bool.{true, false, _&&_}
+use mathlib.Core.Logic.{_⊎_, ⊎-elim}
+use mathlib.Core.List.{[], _∷_}
 use mathlib.Core.Option.{Option, some, none}
-use Prim.Native.Nat.{ℕ, zero, suc, _+_, _-_, _*_, _<_, _≤_, min}
+use Prim.Native.Nat.{ℕ, _+_, _-_, _*_, _<_, _≤_, min}
 use native.Mathlib.Omega.{arith}
-use borrow.Author.Needs.{needs}
 use lib.ListN.{length, getD, drop}
 use lib.Dec.{leb, ltb}
 use Rattle.std.proofs.shelf.Lists.{at-drop-more, at-drop-all}
-use Rattle.std.proofs.shelf.Tests.{lt-leb, le-leb, lt-ltb, le-ltb, and-left, and-right, and-from, cases-lt}
+use Rattle.std.proofs.shelf.Tests.{lt-leb, le-leb, le-ltb, and-left, and-right, and-from, cases-lt}
 use Rattle.base.specs.Choices.{pick, on-some, guard}
 use Rattle.base.specs.Names.{Name}
 use Rattle.text.specs.Words.{digits, below}

@@ -1,5 +1,5 @@
 use mathlib.Core.Path.{sym}
-use Rattle.catalog.proofs.Looking.{count-is}
+use Rattle.tables.proofs.Looking.{count-is}
 use Rattle.catalog.proofs.catalog.Catalog.len.Needs as need
 
 pub returns : need.returns

@@ -1,0 +1,23 @@
+use mathlib.Core.Path.{refl, ap, _∙_}
+use mathlib.Core.Option.{some, none}
+use denote.Ref.{now}
+use Rattle.std.specs.Options.{mapped}
+use Rattle.base.specs.Choices.{found}
+use Rattle.library.specs.Library.{Library}
+use Rattle.lent.specs.Tables.{rows-in}
+use Rattle.rows.specs.Rows.{name-at}
+use Rattle.tables.specs.Store.{store, library-at}
+use Rattle.catalog.proofs.Looking.{no-part, the-part}
+use Rattle.catalog.proofs.catalog.Catalog.need.Needs as need
+
+pub returns-in-Break-k : need.returns-in-Break-k
+unfolding store library-at
+returns-in-Break-k c = ap (λ r. found (mapped now r)) (c .from-residual .ensures) ∙ no-part (store (c .args .self .now .parts .tables)) (c .args .id .0) 3 (c .args .j) (λ (l : Library). l .needs) (store (c .args .self .now .parts .tables) .needs) (λ r. refl) (c .in-Break-k .ensures tt)
+
+pub returns-in-Break-row : need.returns-in-Break-row
+unfolding store library-at
+returns-in-Break-row c = ap (λ r. found (mapped now r)) (c .from-residual-in-Break-row .ensures) ∙ the-part (store (c .args .self .now .parts .tables)) (c .args .id .0) 3 (c .args .j) (c .in-Continue-k .k) (λ (l : Library). l .needs) (name-at (c .args .self .now .parts .tables .text .now)) (rows-in 2 (c .args .self .now .parts .tables .needs)) none (λ r. refl) (c .in-Continue-k .ensures tt) (c .in-Break-row .ensures tt .value)
+
+pub returns : need.returns
+unfolding store library-at
+returns c = ap some (c .slice .ensures ∙ c .name .ensures (c .args .self .now .parts .tables .text .now)) ∙ the-part (store (c .args .self .now .parts .tables)) (c .args .id .0) 3 (c .args .j) (c .in-Continue-k .k) (λ (l : Library). l .needs) (name-at (c .args .self .now .parts .tables .text .now)) (rows-in 2 (c .args .self .now .parts .tables .needs)) (some (c .in-Continue-row .row .now)) (λ r. refl) (c .in-Continue-k .ensures tt) (c .in-Continue-row .ensures tt .value)

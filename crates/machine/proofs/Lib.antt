@@ -1,0 +1,2 @@
+-- Lemmas on rows of words.
+mod Rows

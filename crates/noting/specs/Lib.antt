@@ -1,0 +1,2 @@
+-- What is noted of pokes.
+pub mod Kept
