@@ -8,14 +8,14 @@ ghost use Rattle.std.specs.Options.{Cases as BySome};
 ghost use Rattle.library.specs.Text.{read};
 ghost use Rattle.tables.specs.Store.{libraries};
 ghost use Rattle.catalog.specs.Steps.{Blank, Ready, Whole, Short};
-use tables::tables::Draft;
 use crate::parts::Parts;
-use tables::tables::Tables;
 use lent::index::Index;
 use lent::table::Table;
 use library::faults::BadLine;
 use library::faults::ReadFault;
 use library::faults::ReadFaultFromLine;
+use tables::tables::Draft;
+use tables::tables::Tables;
 use text::reader::Reader;
 use text::reader::Span;
 

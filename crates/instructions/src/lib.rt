@@ -5,11 +5,11 @@ ghost use Rattle.std.specs.declared.result.Result.the-variants.{Ok, Err};
 ghost use Rattle.text.specs.Readers.{words};
 ghost use Rattle.library.specs.Lines.{operands, instruction-line, ternary, unary-of};
 ghost use Rattle.library.specs.Views.{instruction-of, reg};
+
 mod keywords;
 mod shapes;
 
 use crate::keywords::opcode;
-use operands::end;
 use crate::shapes::one_cell;
 use crate::shapes::one_reg;
 use crate::shapes::reg_cell;
@@ -26,6 +26,7 @@ use library::types::Instruction;
 use library::types::Opcode;
 use library::types::Register;
 use library::types::Unary;
+use operands::end;
 use text::reader::Reader;
 
 fn ternary(op: Arithmetic, a: Register, b: Register, c: Register) -> Instruction

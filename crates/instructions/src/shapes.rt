@@ -7,14 +7,14 @@ ghost use Rattle.text.specs.Readers.{words};
 ghost use Rattle.library.specs.Library.{Instruction as Code};
 ghost use Rattle.library.specs.Lines.{reg-num, reg-reg-num, reg-num-reg, reg-cell, three-regs, two-regs, one-cell, one-reg, reg-cell-choice, reg-reg-cell};
 ghost use Rattle.library.specs.Views.{reg, cell-no};
+use library::faults::LineFault;
+use library::types::CellNo;
+use library::types::Register;
 use operands::cell;
 use operands::end;
 use operands::global;
 use operands::register;
 use operands::word_number;
-use library::faults::LineFault;
-use library::types::CellNo;
-use library::types::Register;
 use text::reader::Reader;
 
 // The words behind an instruction's keyword, one function for each list of operands.
