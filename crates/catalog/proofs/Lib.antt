@@ -1,4 +1,2 @@
--- Lemmas on reading a whole text.
-pub mod Linewise
-pub mod Going
+-- Lemmas on parts of libraries.
 pub mod Looking

@@ -1,3 +1,2 @@
--- Reading a whole text.
-pub mod Steps
+-- Parts of the libraries, one by one.
 pub mod Looks

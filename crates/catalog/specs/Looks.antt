@@ -8,7 +8,7 @@ use Rattle.base.specs.Choices.{on-some, guard}
 use Rattle.base.specs.Lists.{nth}
 use Rattle.library.specs.Library.{Library}
 use Rattle.tables.specs.Store.{Store}
-use Rattle.catalog.specs.declared.parts.Sizes.{Sizes}
+use Rattle.catalog.specs.declared.sizes.Sizes.{Sizes}
 
 -- the row of part j of library i, whose bounds stand in words w and w + 1
 abbrev pub part-row : Store → ℕ → ℕ → ℕ → Option ℕ

@@ -3,8 +3,8 @@ ghost use Prim.Native.Nat.{ℕ, _*_, _<_, _≤_};
 ghost use lib.ListN.{length, getD};
 ghost use Rattle.lent.specs.Indexes.{newest};
 ghost use Rattle.tables.specs.Store.{libraries, buckets};
-use crate::parts::Parts;
 use library::faults::ReadFault;
+use reading::parts::Parts;
 
 // The libraries of a text, and why there are none where it couldn't be read.
 #[derive(Drop)]

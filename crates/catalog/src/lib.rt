@@ -1,7 +1,5 @@
-// The libraries of a text, read into lent words.
+// The libraries of a text, in lent words.
 pub mod catalog;
-mod lining;
 mod looks;
 mod opening;
-pub mod parts;
-mod reading;
+pub mod sizes;

@@ -9,7 +9,7 @@ ghost use Rattle.library.specs.Views.{cell-no, definition-of, cell-of};
 ghost use Rattle.tables.specs.Store.{store, libraries};
 ghost use Rattle.catalog.specs.Looks.{part-row, part-at, sizes-of};
 use crate::catalog::Catalog;
-use crate::parts::Sizes;
+use crate::sizes::Sizes;
 use library::types::Cell;
 use library::types::CellNo;
 use library::types::Definition;

@@ -13,15 +13,15 @@ ghost use Rattle.library.specs.Text.{read};
 ghost use Rattle.library.specs.Views.{cell-no, definition-of, cell-of};
 ghost use Rattle.tables.specs.Store.{libraries, Has-name};
 ghost use Rattle.catalog.specs.Looks.{part-at, sizes-of};
-ghost use Rattle.catalog.specs.Steps.{Failed};
+ghost use Rattle.reading.specs.Steps.{Failed};
 use crate::catalog::Catalog;
-use crate::parts::Parts;
-use crate::parts::Sizes;
+use crate::sizes::Sizes;
 use library::faults::ReadFault;
 use library::types::Cell;
 use library::types::CellNo;
 use library::types::Definition;
 use library::types::LibraryId;
+use reading::parts::Parts;
 
 impl<'t, 'a> Catalog<'t, 'a> {
     // Reads a text into lent words: its libraries, or no libraries and a fault.

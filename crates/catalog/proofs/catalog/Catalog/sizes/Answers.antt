@@ -4,7 +4,7 @@ use lib.ListN.{getD}
 use Prim.Native.Nat.{ℕ}
 use Rattle.base.specs.Choices.{found}
 use Rattle.rows.specs.Rows.{name-at, number-at, definition-at, cell-at}
-use Rattle.catalog.specs.declared.parts.Sizes.{Sizes}
+use Rattle.catalog.specs.declared.sizes.Sizes.{Sizes}
 use Rattle.tables.specs.Store.{store, library-at}
 use Rattle.catalog.specs.Looks.{sizes-of}
 use Rattle.tables.proofs.Pushes.{rows-count}

@@ -1,0 +1,3 @@
+-- Lemmas on reading a whole text.
+pub mod Linewise
+pub mod Going

@@ -1,0 +1,2 @@
+-- Reading a whole text into tables.
+pub mod Steps
