@@ -1,0 +1,3 @@
+-- Lemmas on lines of files.
+mod Places
+mod Joined

@@ -1,0 +1,2 @@
+-- Lines of files that are read as one text.
+pub mod Places
