@@ -1,15 +1,14 @@
 -- What was put into a word is read from it.
-use mathlib.Core.Bool.{Bool, true, false}
+use mathlib.Core.Bool.{true, false}
 use mathlib.Core.Option.{some}
 use mathlib.Core.Path.{_≡_, refl, ap, _∙_}
 use Prim.Native.Nat.{ℕ, _+_, _/_, _%_, _<_}
 use native.Mathlib.Omega.{arith}
-use lib.Dec.{eqb}
-use Rattle.base.specs.Choices.{pick, over, found}
+use Rattle.base.specs.Choices.{over, found}
 use Rattle.library.specs.Library.{Instruction, Set, Get, Sto, Own, Add, Sub, Mul, Less, Same, Move, Jump, If0, Call, Callr, Ret, Push, Pop, Out, In, Open, Find, Close, End}
 use Rattle.library.specs.Fine.{Fine}
 use Rattle.processor.specs.Cpu.{Parts, parts, wide}
-use Rattle.processor.specs.Operations.{kind, decoded}
+use Rattle.processor.specs.Operations.{kind}
 use Rattle.image.specs.Encode.{pack, apart, fields, encode, cell-behind, instruction-at, Decodes}
 
 unpack : (o r a b k : ℕ) → o < 256 → r < 256 → a < 256 → b < 256 → k < 4294967296 → parts (pack o r a b k) ≡ record { o = o; r = r; a = a; b = b; k = k }

@@ -33,7 +33,11 @@ pub place-not-0 : Place-not-0
 place-not-0 ls k s c rel i j f e = omega (arith, rel .mem .ground .placed .first i (f .0), e)
 
 pub behind-alone : Behind-alone
-behind-alone ls k s c rel i x ei = record { taken = rel .mem .ground .apart .below i x ei; no-cell = λ a b y ea h e. ⊎-elim (λ q. omega (arith, ap (base-of k) q, ap (size-of k) q)) (λ q. ⊎-elim (λ l. omega arith) (λ l. omega arith) (rel .mem .ground .apart .apart a i y x ea ei q)) (cases-eq a i); behind = λ a y ea e. ⊎-elim (λ q. q) (λ q. absurd (⊎-elim (λ l. omega arith) (λ l. omega arith) (rel .mem .ground .apart .apart a i y x ea ei q))) (cases-eq a i) }
+behind-alone ls k s c rel i x ei = record {
+  taken = rel .mem .ground .apart .below i x ei;
+  no-cell = λ a b y ea h e. ⊎-elim (λ q. omega (arith, ap (base-of k) q, ap (size-of k) q)) (λ q. ⊎-elim (λ l. omega arith) (λ l. omega arith) (rel .mem .ground .apart .apart a i y x ea ei q)) (cases-eq a i);
+  behind = λ a y ea e. ⊎-elim (λ q. q) (λ q. absurd (⊎-elim (λ l. omega arith) (λ l. omega arith) (rel .mem .ground .apart .apart a i y x ea ei q))) (cases-eq a i);
+}
 
 module _ (ls : List Library) (k : Layout) (m : Room) (s t : State) (c : Processor) (rel : Rel ls k s c) where
   -- a step that changes no word
@@ -74,7 +78,17 @@ module _ (ls : List Library) (k : Layout) (m : Room) (s t : State) (c : Processo
   If-stored (wrong u) d = Unit
 
   sto-stored : (a n r : ℕ) → state.held-at s (s .core .here .host) (s .core .here .cell) ≡ some (code (Sto a n r)) → If-stored (steps.does ls m s (Sto a n r)) (Cpu.does c (fields (Sto a n r) (s .core .here .cell)))
-  sto-stored a n r e = sto-cases ls k s c rel m (low k ls m s c rel _ e) If-stored (λ d. tt) (λ i j v old x hs fv ei es ej. let h : j < size-of k i = omega (arith, nth-lt hs j (val old) ej, rel .mem .cells i x hs ei es .sized) in record { host = i; cell = j; value = v; x = x; live = ei; inside = h; cells = refl; words = refl; others = λ a b y ea l d. put-other (c .words) (base-of k i + j) (base-of k a + b) _ (λ q. others i j x a b y ei ea h l d q) }) a n r (at-code k ls m s c rel _ e .2 .1)
+  sto-stored a n r e = sto-cases ls k s c rel m (low k ls m s c rel _ e) If-stored (λ d. tt) (λ i j v old x hs fv ei es ej. let h : j < size-of k i = omega (arith, nth-lt hs j (val old) ej, rel .mem .cells i x hs ei es .sized) in record {
+    host = i;
+    cell = j;
+    value = v;
+    x = x;
+    live = ei;
+    inside = h;
+    cells = refl;
+    words = refl;
+    others = λ a b y ea l d. put-other (c .words) (base-of k i + j) (base-of k a + b) _ (λ q. others i j x a b y ei ea h l d q);
+  }) a n r (at-code k ls m s c rel _ e .2 .1)
     where
       others : (i j : ℕ) (x : Module) (a b : ℕ) (y : Module) → live-at (s .links .modules) i ≡ some x → live-at (s .links .modules) a ≡ some y → j < size-of k i → b ≤ size-of k a → ((a ≡ i) × (b ≡ j) → ⊥) → base-of k a + b ≡ base-of k i + j → ⊥
       others i j x a b y ei ea h l d q = ⊎-elim (λ p. d (p, omega (arith, ap (base-of k) p))) (λ p. ⊎-elim (λ u. omega arith) (λ u. omega arith) (rel .mem .ground .apart .apart a i y x ea ei p)) (cases-eq a i)

@@ -1,7 +1,7 @@
 -- A slot that is settled at the first call through it.
-use mathlib.Core.Path.{_≡_, refl, ap, sym, _∙_, subst}
 use mathlib.Core.List.{List}
 use mathlib.Core.Option.{Option, some, none}
+use mathlib.Core.Path.{_≡_, refl, ap, sym, _∙_, subst}
 use Prim.Native.Nat.{ℕ, _+_, _<_}
 use native.Mathlib.Omega.{arith}
 use lib.ListN.{length}
@@ -11,9 +11,9 @@ use Rattle.base.proofs.Lists.{nth-lt, put-same, put-other}
 use Rattle.library.specs.Library.{Symbol, Call, at, slot, Library}
 use Rattle.links.specs.Links.{Place, Module, Room}
 use Rattle.links.specs.Scope.{live-at, scope, resolve}
-use Rattle.links.proofs.Keys.{live-inv, live-from}
 use Rattle.links.specs.Load.{bound-to}
 use Rattle.links.specs.Close.{slot-bound}
+use Rattle.links.proofs.Keys.{live-inv, live-from}
 use Rattle.meaning.specs.State as state
 use Rattle.meaning.specs.State.{Value, place, Held, link, code, State, lost}
 use Rattle.meaning.specs.Steps as steps
@@ -58,7 +58,15 @@ module _ (k : Layout) (ls : List Library) (m : Room) (s : State) (c : Processor)
   under = subst (Under (s .links .modules)) (sym modules-are) (under-put (s .links .modules) i (x .0) x′ module-at refl (λ h. h))
 
   rel′ : Rel ls k s′ c′
-  rel′ = record { mem = mem-under ls k (s .links) (steps.put-cell (s .cells) i j there) (c′ .words) (s′ .links .modules) under (mem-put ls k (s .links) (s .cells) (c .words) (rel .mem) i j (addr-place k p) (x .0) (x .1) (link y none) there (x .2) (x .3) (x .4) (refl, found-fits k (s .links .modules) (s .links .used) (length (c .words)) (rel .mem .ground) i y (scope (s .links) i) p r) slot-is); regs = rel .regs; here = rel .here; backs = rel .backs; pushed = rel .pushed; ins = rel .ins; outs = rel .outs }
+  rel′ = record {
+    mem = mem-under ls k (s .links) (steps.put-cell (s .cells) i j there) (c′ .words) (s′ .links .modules) under (mem-put ls k (s .links) (s .cells) (c .words) (rel .mem) i j (addr-place k p) (x .0) (x .1) (link y none) there (x .2) (x .3) (x .4) (refl, found-fits k (s .links .modules) (s .links .used) (length (c .words)) (rel .mem .ground) i y (scope (s .links) i) p r) slot-is);
+    regs = rel .regs;
+    here = rel .here;
+    backs = rel .backs;
+    pushed = rel .pushed;
+    ins = rel .ins;
+    outs = rel .outs;
+  }
     where
       slot-is : (z : Symbol) (o : Option Value) → there ≡ link z o → nth (x .0 .lib .cells) j ≡ some (slot z)
       slot-is z o g = let w : y ≡ z = cc in rw (← w) (rel .mem .cells i (x .0) (x .1) (x .2) (x .3) .slots j y none (x .4))

@@ -1,7 +1,7 @@
 -- What a symbol means is a cell of a live module, and has an address.
-use mathlib.Core.Path.{_≡_, refl}
 use mathlib.Core.List.{List, [], _∷_}
 use mathlib.Core.Option.{Option, some, none}
+use mathlib.Core.Path.{_≡_, refl}
 use Prim.Native.Nat.{ℕ, _<_}
 use native.Mathlib.Omega.{arith}
 use lib.ListN.{length}
@@ -12,8 +12,8 @@ use Rattle.library.specs.Library.{Symbol, Library}
 use Rattle.library.specs.Fine.{Library-fine}
 use Rattle.links.specs.Links.{Place, Module}
 use Rattle.links.specs.Scope.{live-at, lookup}
-use Rattle.links.proofs.Keys.{live-inv, look-in, find-def-in}
 use Rattle.links.specs.Load.{places, calls-of}
+use Rattle.links.proofs.Keys.{live-inv, look-in, find-def-in}
 use Rattle.meaning.specs.State.{place-of}
 use Rattle.simulation.specs.Layout.{Layout, size-of, Ground, Fits, Fits-place}
 

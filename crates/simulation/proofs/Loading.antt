@@ -1,8 +1,8 @@
 -- A load in the memory: each new module has its image at its base, and what was there keeps its words.
-use mathlib.Core.Path.{_≡_, refl, ap, sym, _∙_, subst, subst₂}
 use mathlib.Core.List.{List, [], _∷_, _++_, map}
 use mathlib.Core.Logic.{⊎-elim}
 use mathlib.Core.Option.{Option, some, none}
+use mathlib.Core.Path.{_≡_, refl, ap, sym, _∙_, subst, subst₂}
 use Prim.Native.Nat.{ℕ, _+_, _%_, _<_, _≤_}
 use native.Mathlib.Omega.{arith}
 use lib.ListN.{length, getD}
@@ -16,10 +16,11 @@ use Rattle.library.specs.Fine.{Cell-fine, Library-fine}
 use Rattle.library.proofs.Labels.{each-found, label-counted}
 use Rattle.links.specs.Links.{Place, Module, Links, Room, cells-in}
 use Rattle.links.specs.Scope.{live-at, scope, resolve}
-use Rattle.links.proofs.Keys.{live-inv, live-from}
 use Rattle.links.specs.Load.{Loaded}
 use Rattle.links.specs.Laws.{Rising, Comes, Loads}
+use Rattle.links.proofs.Keys.{live-inv, live-from}
 use Rattle.meaning.specs.State.{Value, Held, link, place-of, first-held, first-helds, new-cells}
+use Rattle.processor.specs.Cpu
 use Rattle.image.specs.Encode.{apart}
 use Rattle.image.specs.Words.{first-word}
 use Rattle.simulation.specs.Layout.{Layout, base-of, size-of, Ground, addr, addr-place, Fits}
@@ -86,7 +87,7 @@ module _ (ls : List Library) (fine : Each Library-fine ls) (k : Layout) (ks : Li
     abbrev word-of : ℕ → Cell → ℕ
     word-of j c = first-word (settled-at k′ (q .links) me c) (base-of k′ me) (cells-before ls (x .lib .name) + j) j c
 
-    ref-word : (o : Option Place) (n : ℕ) → Fits k′ (place-of o n) → opt (over (addr-place k′) o) 0 (λ a. (a + n) % 18446744073709551616) ≡ addr k′ (place-of o n)
+    ref-word : (o : Option Place) (n : ℕ) → Fits k′ (place-of o n) → opt (over (addr-place k′) o) 0 (λ a. (a + n) % Cpu.all) ≡ addr k′ (place-of o n)
     ref-word none n f = refl
     ref-word (some p) n f = omega (arith, ground′ .placed .last (p .host) (f .0), ground′ .placed .few, f .1)
 
@@ -107,7 +108,11 @@ module _ (ls : List Library) (fine : Each Library-fine ls) (k : Layout) (ks : Li
     slot-only y o (instruction s) g = let z : _≡_ {A = ℕ} 0 1 = cc in absurd (omega arith)
 
     new-kept : Kept ls k′ ws′ me x (first-helds (q .links) me (x .lib .cells))
-    new-kept = record { sized = length-first (q .links) me (x .lib .cells) ∙ sym (ground′ .sized me x e); slots = λ j y o g. let t = nth-first (q .links) me (x .lib .cells) j (link y o) g in t .1 ∙ ap some (slot-only y o (t .0) (t .2)); cell = λ j g p. at-cell j g (nth-first (q .links) me (x .lib .cells) j g p) }
+    new-kept = record {
+      sized = length-first (q .links) me (x .lib .cells) ∙ sym (ground′ .sized me x e);
+      slots = λ j y o g. let t = nth-first (q .links) me (x .lib .cells) j (link y o) g in t .1 ∙ ap some (slot-only y o (t .0) (t .2));
+      cell = λ j g p. at-cell j g (nth-first (q .links) me (x .lib .cells) j g p);
+    }
       where
         fine-x : Library-fine (x .lib)
         fine-x = ground′ .fine me x e
@@ -125,7 +130,12 @@ module _ (ls : List Library) (fine : Each Library-fine ls) (k : Layout) (ks : Li
             word-j = let z : 0 + j ≡ j = omega arith in nth-words (settled-at k′ (q .links) me) (base-of k′ me) (cells-before ls (x .lib .name)) 0 (x .lib .cells) j (t .0) (t .1) ∙ (λ i. some (first-word (settled-at k′ (q .links) me (t .0)) (base-of k′ me) (cells-before ls (x .lib .name) + z i) (z i) (t .0)))
 
   pub mem-loaded : Mem ls k′ (q .links) (css ++ new-cells (q .links) (q .new)) ws′
-  mem-loaded = record { ground = rw long ground′; held = count; numbered = omega (arith, mem .numbered, l .groups, l .taken); cells = λ i x hs e s. ⊎-elim (λ p. old-kept i x hs e p) (λ p. new-one i x hs e (p .0) (p .1) (p .2)) (nth-either css (new-cells (q .links) (q .new)) i hs s) }
+  mem-loaded = record {
+    ground = rw long ground′;
+    held = count;
+    numbered = omega (arith, mem .numbered, l .groups, l .taken);
+    cells = λ i x hs e s. ⊎-elim (λ p. old-kept i x hs e p) (λ p. new-one i x hs e (p .0) (p .1) (p .2)) (nth-either css (new-cells (q .links) (q .new)) i hs s);
+  }
     where
       new-count : length (new-cells (q .links) (q .new)) ≡ length (l .fresh)
       new-count = ap (λ is. length (new-cells (q .links) is)) (l .new) ∙ length-new (q .links) (length (ks .modules)) (length (l .fresh))

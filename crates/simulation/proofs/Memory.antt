@@ -1,8 +1,8 @@
 -- Cells and words that are written; no two live cells share an address.
-use mathlib.Core.Path.{_≡_, refl, ap, sym, _∙_, subst, subst₂}
 use mathlib.Core.List.{List}
 use mathlib.Core.Logic.{⊎-elim}
 use mathlib.Core.Option.{Option, some, none}
+use mathlib.Core.Path.{_≡_, refl, ap, sym, _∙_, subst, subst₂}
 use Prim.Native.Nat.{ℕ, _+_, _%_, _<_}
 use native.Mathlib.Omega.{arith}
 use lib.ListN.{length}
@@ -38,7 +38,12 @@ module _ (ls : List Library) (k : Layout) (ks : Links) (css : List (List Held)) 
 
   -- a cell written, and its word
   pub mem-put : (i j w : ℕ) (x : Module) (hs : List Held) (old h : Held) → live-at (ks .modules) i ≡ some x → nth css i ≡ some hs → nth hs j ≡ some old → Holds ls k (size-of k i) j h w → ((y : Symbol) (o : Option Value) → h ≡ link y o → nth (x .lib .cells) j ≡ some (slot y)) → Mem ls k ks (steps.put-cell css i j h) (put ws (base-of k i + j) w)
-  mem-put i j w x hs old h ei es ej hw sl = rw (opt-some (nth css i) css (λ hs. put css i (put hs j h)) hs es) (record { ground = rw (length-put ws (base-of k i + j) w) (mem .ground); held = length-put css i (put hs j h) ∙ mem .held; numbered = mem .numbered; cells = λ a z gs e q. ⊎-elim (λ p. here a z gs p e q) (λ p. other a z gs p e q) (cases-eq a i) })
+  mem-put i j w x hs old h ei es ej hw sl = rw (opt-some (nth css i) css (λ hs. put css i (put hs j h)) hs es) (record {
+    ground = rw (length-put ws (base-of k i + j) w) (mem .ground);
+    held = length-put css i (put hs j h) ∙ mem .held;
+    numbered = mem .numbered;
+    cells = λ a z gs e q. ⊎-elim (λ p. here a z gs p e q) (λ p. other a z gs p e q) (cases-eq a i);
+  })
     where
       kx : Kept ls k ws i x hs
       kx = mem .cells i x hs ei es
@@ -62,7 +67,11 @@ module _ (ls : List Library) (k : Layout) (ks : Links) (css : List (List Held)) 
       slot-here b y o e = ⊎-elim (λ q. ap (nth (x .lib .cells)) q ∙ sl y o (some-is (sym (put-same hs j h (nth-lt hs j old ej)) ∙ ap (nth (put hs j h)) (sym q) ∙ e))) (λ q. kx .slots b y o (sym (put-other hs j b h q) ∙ e)) (cases-eq b j)
 
       here : (a : ℕ) (z : Module) (gs : List Held) → a ≡ i → live-at (ks .modules) a ≡ some z → nth (put css i (put hs j h)) a ≡ some gs → Kept ls k (put ws (base-of k i + j) w) a z gs
-      here a z gs p e q = subst₂ (λ b g. Kept ls k (put ws (base-of k i + j) w) b z g) (sym p) hg (subst (λ y. Kept ls k (put ws (base-of k i + j) w) i y (put hs j h)) xz (record { sized = length-put hs j h ∙ kx .sized; slots = slot-here; cell = cell-here }))
+      here a z gs p e q = subst₂ (λ b g. Kept ls k (put ws (base-of k i + j) w) b z g) (sym p) hg (subst (λ y. Kept ls k (put ws (base-of k i + j) w) i y (put hs j h)) xz (record {
+        sized = length-put hs j h ∙ kx .sized;
+        slots = slot-here;
+        cell = cell-here;
+      }))
         where
           xz : x ≡ z
           xz = some-is (sym ei ∙ ap (live-at (ks .modules)) (sym p) ∙ e)
@@ -71,7 +80,11 @@ module _ (ls : List Library) (k : Layout) (ks : Links) (css : List (List Held)) 
           hg = some-is (sym (put-same css i (put hs j h) (nth-lt css i hs es)) ∙ ap (nth (put css i (put hs j h))) (sym p) ∙ q)
 
       other : (a : ℕ) (z : Module) (gs : List Held) → (a ≡ i → ⊥) → live-at (ks .modules) a ≡ some z → nth (put css i (put hs j h)) a ≡ some gs → Kept ls k (put ws (base-of k i + j) w) a z gs
-      other a z gs p e q = let kz = mem .cells a z gs e (sym (put-other css i a (put hs j h) p) ∙ q) in record { sized = kz .sized; slots = kz .slots; cell = λ b g eb. let t = kz .cell b g eb in (t .0, put-other ws (base-of k i + j) (base-of k a + b) w (no-two i j a b x z ei e hj (omega (arith, nth-lt gs b g eb, kz .sized)) p) ∙ t .1, t .2) }
+      other a z gs p e q = let kz = mem .cells a z gs e (sym (put-other css i a (put hs j h) p) ∙ q) in record {
+        sized = kz .sized;
+        slots = kz .slots;
+        cell = λ b g eb. let t = kz .cell b g eb in (t .0, put-other ws (base-of k i + j) (base-of k a + b) w (no-two i j a b x z ei e hj (omega (arith, nth-lt gs b g eb, kz .sized)) p) ∙ t .1, t .2);
+      }
 
 module _ (ls : List Library) (k : Layout) (s : State) (c : Processor) (rel : Rel ls k s c) where
   -- the word that a cell has
@@ -83,15 +96,28 @@ module _ (ls : List Library) (k : Layout) (s : State) (c : Processor) (rel : Rel
     pub sto-cases : (P : Next → Did → Type 0) → ((d : Did) → P (wrong s) d) → ((i j : ℕ) (v old : Value) (x : Module) (hs : List Held) → Fits k v → live-at (s .links .modules) i ≡ some x → nth (s .cells) i ≡ some hs → nth hs j ≡ some (val old) → P (goes (values.next (state.with-links s (s .links) (steps.put-cell (s .cells) i j (val v))))) (Cpu.stores c (base-of k i + j) (addr k v))) → (a n r : ℕ) → Fine (Sto a n r) → P (steps.does ls m s (Sto a n r)) (Cpu.does c (fields (Sto a n r) (s .core .here .cell)))
     sto-cases P fell wrote a n r h = on-reg-any ls k s c rel P a _ _ (fell _) (elim [ num l ↦ λ f. on-reg-any ls k s c rel P r _ _ (fell _) (λ v fv. fell _) | place i l ↦ λ f. on-reg-any ls k s c rel P r _ _ (fell _) (λ v fv. go i l f v fv (state.held-at s i (l + n)) refl) ])
       where
-        go : (i l : ℕ) → Fits k (place i l) → (v : Value) → Fits k v → (o : Option Held) → state.held-at s i (l + n) ≡ o → P (opt (steps.write-at s (place i l) n v) (wrong s) (λ t. goes (values.next t))) (Cpu.word c ((base-of k i + l + n) % 18446744073709551616) (λ o. Cpu.stores c ((base-of k i + l + n) % 18446744073709551616) (addr k v)))
+        go : (i l : ℕ) → Fits k (place i l) → (v : Value) → Fits k v → (o : Option Held) → state.held-at s i (l + n) ≡ o → P (opt (steps.write-at s (place i l) n v) (wrong s) (λ t. goes (values.next t))) (Cpu.word c ((base-of k i + l + n) % Cpu.all) (λ o. Cpu.stores c ((base-of k i + l + n) % Cpu.all) (addr k v)))
         go i l f v fv none e = rw e (fell _)
-        go i l f v fv (some (val old)) e = let x = held-inv s i (l + n) (val old) e in let p : (base-of k i + l + n) % 18446744073709551616 ≡ base-of k i + (l + n) = omega (arith, rel .mem .ground .placed .last i (f .0), rel .mem .ground .placed .few, f .1, h .1) in let t = has-word i (l + n) (val old) e in rw (e, p, t .1) (wrote i (l + n) v old (x .0) (x .1) fv (x .2) (x .3) (x .4))
+        go i l f v fv (some (val old)) e = let x = held-inv s i (l + n) (val old) e in let p : (base-of k i + l + n) % Cpu.all ≡ base-of k i + (l + n) = omega (arith, rel .mem .ground .placed .last i (f .0), rel .mem .ground .placed .few, f .1, h .1) in let t = has-word i (l + n) (val old) e in rw (e, p, t .1) (wrote i (l + n) v old (x .0) (x .1) fv (x .2) (x .3) (x .4))
         go i l f v fv (some (link y o)) e = rw e (fell _)
         go i l f v fv (some (label x)) e = rw e (fell _)
         go i l f v fv (some (code o)) e = rw e (fell _)
 
     pub sto-good : (a n r : ℕ) → Fine (Sto a n r) → Good ls k s (c .outs) (steps.does ls m s (Sto a n r)) (Cpu.does c (fields (Sto a n r) (s .core .here .cell)))
-    sto-good = sto-cases (Good ls k s (c .outs)) (λ d. sym (rel .outs)) (λ i j v old x hs fv ei es ej. (refl, record { mem = mem-put ls k (s .links) (s .cells) (c .words) (rel .mem) i j (addr k v) x hs (val old) (val v) ei es ej (refl, fv) (λ y o e. let z : _≡_ {A = ℕ} 0 1 = cc in absurd (omega arith)); regs = rel .regs; here = next-at ls k s c rel low; backs = rel .backs; pushed = rel .pushed; ins = rel .ins; outs = rel .outs }, refl, refl))
+    sto-good = sto-cases (Good ls k s (c .outs)) (λ d. sym (rel .outs)) (λ i j v old x hs fv ei es ej. (
+      refl,
+      record {
+        mem = mem-put ls k (s .links) (s .cells) (c .words) (rel .mem) i j (addr k v) x hs (val old) (val v) ei es ej (refl, fv) (λ y o e. let z : _≡_ {A = ℕ} 0 1 = cc in absurd (omega arith));
+        regs = rel .regs;
+        here = next-at ls k s c rel low;
+        backs = rel .backs;
+        pushed = rel .pushed;
+        ins = rel .ins;
+        outs = rel .outs;
+      },
+      refl,
+      refl,
+    ))
 
     pub call-good : (j : ℕ) (y : Symbol) (v : Value) → j < size-of k (s .core .here .host) → steps.own s j ≡ some (link y (some v)) → Good ls k s (c .outs) (steps.does ls m s (Call j)) (Cpu.does c (fields (Call j) (s .core .here .cell)))
     call-good j y v h e = let t = has-word (s .core .here .host) j (link y (some v)) e in rw (e, own-there ls k s c rel m low j h, t .1) (go v (t .0) (t .2 .0) (t .2 .1))

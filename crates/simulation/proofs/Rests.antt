@@ -1,6 +1,6 @@
 -- The loader goes on with pending calls: each thing that it does is a step of the meaning.
-use mathlib.Core.Path.{_≡_, refl, ap, sym, _∙_, subst}
 use mathlib.Core.List.{List, [], _∷_}
+use mathlib.Core.Path.{_≡_, refl, ap, sym, _∙_, subst}
 use Prim.Native.Nat.{ℕ, suc}
 use native.Mathlib.Omega.{arith}
 use lib.ListN.{length}
@@ -41,12 +41,64 @@ module _ (w : World) (l : Loader) (i : ℕ) (c : Processor) (b : Between w l i c
   then-is = next-is w (b .n) (b .z) (b .there) ∙ b .next
 
   next-call : (p : Place) (ps : List Place) (f : Sequel) → Fits-frame k (pending (p ∷ ps) f) → at w (suc (b .n)) ≡ goes (state.moved (b .z) (b .z .core .regs) p (pending ps f ∷ b .fs)) → Stands w (with-rows l (row ps (resumes k f) ∷ pendings k (b .fs))) i (called c (addr-place k p) 0)
-  next-call p ps f h e = in-code (suc (b .n)) _ (omega (arith, b .made)) e (record { links = b .matches .links; rows = refl }) (record { mem = b .idle .mem; regs = b .idle .regs; here = record { is = refl; fit = h .0 .0 }; backs = record { rest = b .idle .backs .rest; are = ap (λ z. 0 ∷ z) (b .idle .backs .are); fit = ((h .0 .1, h .1), b .idle .backs .fit) }; pushed = b .idle .pushed; ins = b .idle .ins; outs = b .idle .outs })
+  next-call p ps f h e = in-code (suc (b .n)) _ (omega (arith, b .made)) e (record {
+    links = b .matches .links;
+    rows = refl;
+  }) (record {
+    mem = b .idle .mem;
+    regs = b .idle .regs;
+    here = record { is = refl; fit = h .0 .0 };
+    backs = record { rest = b .idle .backs .rest; are = ap (λ z. 0 ∷ z) (b .idle .backs .are); fit = ((h .0 .1, h .1), b .idle .backs .fit) };
+    pushed = b .idle .pushed;
+    ins = b .idle .ins;
+    outs = b .idle .outs;
+  })
 
   follow : (f : Sequel) → Fits-sequel k f → at w (suc (b .n)) ≡ calls.follows (b .z) f (b .fs) → Goes-on w l i c (pendings k (b .fs)) [] (resumes k f)
-  follow (gives r v p) h e = (h .0, in-code (suc (b .n)) _ (omega (arith, b .made)) e (record { links = b .matches .links; rows = refl }) (record { mem = b .idle .mem; regs = values-put k (b .z .core .regs) (c .regs) r v (b .idle .regs) (h .1); here = record { is = refl; fit = h .2 }; backs = b .idle .backs; pushed = b .idle .pushed; ins = b .idle .ins; outs = b .idle .outs }))
-  follow (drops js r p) h e = (h .0, in-code (suc (b .n)) _ (omega (arith, b .made)) e (record { links = ap (unload js) (b .matches .links); rows = refl }) (record { mem = mem-under (w .libs) k (b .z .links) (b .z .cells) (c .words) (unload-all (keep (λ j. has j (leaving (b .z .links))) js) (b .z .links .modules)) (under-unload (keep (λ j. has j (leaving (b .z .links))) js) (b .z .links .modules)) (b .idle .mem); regs = values-put k (b .z .core .regs) (c .regs) r (num 1) (b .idle .regs) (omega arith); here = record { is = refl; fit = h .1 }; backs = b .idle .backs; pushed = b .idle .pushed; ins = b .idle .ins; outs = b .idle .outs }))
-  follow (ends v) h e = record { n = suc (b .n); z = calls.ending (b .z) v; ps = fini-calls (b .z .links) (b .z .links .order); f = stops v; fs = []; made = omega (arith, b .made); there = e; next = nowhere-step (w .libs) (w .memory) (calls.ending (b .z) v) refl; frames = refl; fits = (finis-fit (w .libs) k (b .z .links) (b .z .cells) (c .words) (b .idle .mem) (b .z .links .order), h); matches = record { links = b .matches .links; rows = λ t. row (fini-calls (b .matches .links t) (b .matches .links t .order)) (stop v) ∷ [] }; idle = record { mem = b .idle .mem; regs = b .idle .regs; backs = record { rest = c .backs; are = refl; fit = tt }; pushed = b .idle .pushed; ins = b .idle .ins; outs = b .idle .outs } }
+  follow (gives r v p) h e = (
+    h .0,
+    in-code (suc (b .n)) _ (omega (arith, b .made)) e (record {
+      links = b .matches .links;
+      rows = refl;
+    }) (record {
+      mem = b .idle .mem;
+      regs = values-put k (b .z .core .regs) (c .regs) r v (b .idle .regs) (h .1);
+      here = record { is = refl; fit = h .2 };
+      backs = b .idle .backs;
+      pushed = b .idle .pushed;
+      ins = b .idle .ins;
+      outs = b .idle .outs;
+    }),
+  )
+  follow (drops js r p) h e = (
+    h .0,
+    in-code (suc (b .n)) _ (omega (arith, b .made)) e (record {
+      links = ap (unload js) (b .matches .links);
+      rows = refl;
+    }) (record {
+      mem = mem-under (w .libs) k (b .z .links) (b .z .cells) (c .words) (unload-all (keep (λ j. has j (leaving (b .z .links))) js) (b .z .links .modules)) (under-unload (keep (λ j. has j (leaving (b .z .links))) js) (b .z .links .modules)) (b .idle .mem);
+      regs = values-put k (b .z .core .regs) (c .regs) r (num 1) (b .idle .regs) (omega arith);
+      here = record { is = refl; fit = h .1 };
+      backs = b .idle .backs;
+      pushed = b .idle .pushed;
+      ins = b .idle .ins;
+      outs = b .idle .outs;
+    }),
+  )
+  follow (ends v) h e = record {
+    n = suc (b .n);
+    z = calls.ending (b .z) v;
+    ps = fini-calls (b .z .links) (b .z .links .order);
+    f = stops v;
+    fs = [];
+    made = omega (arith, b .made);
+    there = e;
+    next = nowhere-step (w .libs) (w .memory) (calls.ending (b .z) v) refl;
+    frames = refl;
+    fits = (finis-fit (w .libs) k (b .z .links) (b .z .cells) (c .words) (b .idle .mem) (b .z .links .order), h);
+    matches = record { links = b .matches .links; rows = λ t. row (fini-calls (b .matches .links t) (b .matches .links t .order)) (stop v) ∷ [] };
+    idle = record { mem = b .idle .mem; regs = b .idle .regs; backs = record { rest = c .backs; are = refl; fit = tt }; pushed = b .idle .pushed; ins = b .idle .ins; outs = b .idle .outs };
+  }
   follow (stops v) h e = (suc (b .n), b .z, e, sym (b .idle .outs))
 
   goes-on : (ps : List Place) (f : Sequel) → Fits-frame k (pending ps f) → at w (suc (b .n)) ≡ calls.returns (b .z) (pending ps f ∷ b .fs) → Goes-on w l i c (pendings k (b .fs)) ps (resumes k f)

@@ -1,8 +1,8 @@
 -- Arithmetic on values and on words.
-use mathlib.Core.Path.{_≡_, refl, sym}
 use mathlib.Core.Bool.{Bool, true, false, _&&_}
 use mathlib.Core.List.{List}
 use mathlib.Core.Option.{Option, some, none}
+use mathlib.Core.Path.{_≡_, refl, sym}
 use Prim.Native.Nat.{ℕ, _+_, _-_, _*_, _%_, _<_}
 use native.Mathlib.Omega.{arith}
 use lib.ListN.{length}
@@ -26,18 +26,18 @@ use Rattle.simulation.proofs.Plain.{Good, sets-good, on-reg}
 -- what an operation on values gives is what the one on words gives
 abbrev Gives : Layout → Option Value → ℕ → Type 0
 Gives k none w = Unit
-Gives k (some v) w = Fits k v × (w % 18446744073709551616 ≡ addr k v)
+Gives k (some v) w = Fits k v × (w % Cpu.all ≡ addr k v)
 
 pick-gives : (k : Layout) (b : Bool) (o p : Option Value) (w : ℕ) → (b ≡ true → Gives k o w) → (b ≡ false → Gives k p w) → Gives k (pick b o p) w
 pick-gives k true o p w f g = f refl
 pick-gives k false o p w f g = g refl
 
-when-gives : (k : Layout) (b : Bool) (o : Option Value) (w : ℕ) → (b ≡ true → Gives k o w) → Gives k (guard b o) w
-when-gives k true o w f = f refl
-when-gives k false o w f = tt
+guard-gives : (k : Layout) (b : Bool) (o : Option Value) (w : ℕ) → (b ≡ true → Gives k o w) → Gives k (guard b o) w
+guard-gives k true o w f = f refl
+guard-gives k false o w f = tt
 
 module _ (ls : List Library) (k : Layout) (s : State) (c : Processor) (rel : Rel ls k s c) where
-  moves-gives : (i j n w : ℕ) → Fits k (place i j) → n < 18446744073709551616 → w % 18446744073709551616 ≡ (base-of k i + j + n) % 18446744073709551616 → Gives k (values.moves s i j n) w
+  moves-gives : (i j n w : ℕ) → Fits k (place i j) → n < Cpu.all → w % Cpu.all ≡ (base-of k i + j + n) % Cpu.all → Gives k (values.moves s i j n) w
   moves-gives i j n w f h e = go (nth (s .links .modules) i) refl
     where
       l : base-of k i + size-of k i < length (c .words)
@@ -49,12 +49,12 @@ module _ (ls : List Library) (k : Layout) (s : State) (c : Processor) (rel : Rel
       up : (z : ℕ) → z ≡ size-of k i → leb (j + n) z ≡ true → Gives k (some (place i (j + n))) w
       up z q u = let p = leb-true (j + n) z u in ((f .0, omega (arith, l, few)), omega (arith, l, few))
 
-      down : (z : ℕ) → z ≡ size-of k i → (leb (18446744073709551616 - n) j && leb (j - (18446744073709551616 - n)) z) ≡ true → Gives k (some (place i (j - (18446744073709551616 - n)))) w
-      down z q u = let p = and-parts _ _ u in let p0 = leb-true (18446744073709551616 - n) j (p .0) in let p1 = leb-true (j - (18446744073709551616 - n)) z (p .1) in ((f .0, omega (arith, l, few, f .1)), omega (arith, l, few, f .1))
+      down : (z : ℕ) → z ≡ size-of k i → (leb (Cpu.all - n) j && leb (j - (Cpu.all - n)) z) ≡ true → Gives k (some (place i (j - (Cpu.all - n)))) w
+      down z q u = let p = and-parts _ _ u in let p0 = leb-true (Cpu.all - n) j (p .0) in let p1 = leb-true (j - (Cpu.all - n)) z (p .1) in ((f .0, omega (arith, l, few, f .1)), omega (arith, l, few, f .1))
 
-      go : (o : Option Module) → nth (s .links .modules) i ≡ o → Gives k (on-some (on-some o (λ x. some (length (x .lib .cells)))) (λ z. pick (ltb n values.half) (guard (leb (j + n) z) (some (place i (j + n)))) (guard (leb (18446744073709551616 - n) j && leb (j - (18446744073709551616 - n)) z) (some (place i (j - (18446744073709551616 - n))))))) w
+      go : (o : Option Module) → nth (s .links .modules) i ≡ o → Gives k (on-some (on-some o (λ x. some (length (x .lib .cells)))) (λ z. pick (ltb n values.half) (guard (leb (j + n) z) (some (place i (j + n)))) (guard (leb (Cpu.all - n) j && leb (j - (Cpu.all - n)) z) (some (place i (j - (Cpu.all - n))))))) w
       go none q = tt
-      go (some x) q = let z = sym (rel .mem .ground .sized i x q) in pick-gives k (ltb n values.half) _ _ w (λ t. when-gives k _ (some (place i (j + n))) w (up (length (x .lib .cells)) z)) (λ t. when-gives k _ (some (place i (j - (18446744073709551616 - n)))) w (down (length (x .lib .cells)) z))
+      go (some x) q = let z = sym (rel .mem .ground .sized i x q) in pick-gives k (ltb n values.half) _ _ w (λ t. guard-gives k _ (some (place i (j + n))) w (up (length (x .lib .cells)) z)) (λ t. guard-gives k _ (some (place i (j - (Cpu.all - n)))) w (down (length (x .lib .cells)) z))
 
   plus-gives : (x y : Value) → Fits k x → Fits k y → Gives k (values.plus s x y) (addr k x + addr k y)
   plus-gives (num x) (num y) f g = (omega arith, refl)
@@ -62,11 +62,11 @@ module _ (ls : List Library) (k : Layout) (s : State) (c : Processor) (rel : Rel
   plus-gives (place i j) (num y) f g = moves-gives i j y _ f g refl
   plus-gives (place i j) (place a b) f g = tt
 
-  minus-gives : (x y : Value) → Fits k x → Fits k y → Gives k (values.minus s x y) ((addr k x + 18446744073709551616) - addr k y)
+  minus-gives : (x y : Value) → Fits k x → Fits k y → Gives k (values.minus s x y) ((addr k x + Cpu.all) - addr k y)
   minus-gives (num x) (num y) f g = (omega arith, refl)
   minus-gives (num x) (place i j) f g = tt
-  minus-gives (place i j) (num y) f g = moves-gives i j ((18446744073709551616 - y) % 18446744073709551616) _ f (omega arith) (omega arith)
-  minus-gives (place i j) (place a b) f g = when-gives k (eqb i a) _ _ (λ e. let p = eqb-true i a e in (omega arith, rw p (omega (arith, rel .mem .ground .placed .last a (g .0), rel .mem .ground .placed .few, g .1))))
+  minus-gives (place i j) (num y) f g = moves-gives i j ((Cpu.all - y) % Cpu.all) _ f (omega arith) (omega arith)
+  minus-gives (place i j) (place a b) f g = guard-gives k (eqb i a) _ _ (λ e. let p = eqb-true i a e in (omega arith, rw p (omega (arith, rel .mem .ground .placed .last a (g .0), rel .mem .ground .placed .few, g .1))))
 
   times-gives : (x y : Value) → Fits k x → Fits k y → Gives k (values.times x y) (addr k x * addr k y)
   times-gives (num x) (num y) f g = (omega arith, refl)
@@ -81,13 +81,13 @@ module _ (ls : List Library) (k : Layout) (s : State) (c : Processor) (rel : Rel
   below-gives (num x) (num y) f g = bit-gives _ _ refl
   below-gives (num x) (place i j) f g = tt
   below-gives (place i j) (num y) f g = tt
-  below-gives (place i j) (place a b) f g = when-gives k (eqb i a) _ _ (λ e. let p = eqb-true i a e in rw p (bit-gives (ltb j b) (ltb (base-of k a + j) (base-of k a + b)) (grind (arith, tells))))
+  below-gives (place i j) (place a b) f g = guard-gives k (eqb i a) _ _ (λ e. let p = eqb-true i a e in rw p (bit-gives (ltb j b) (ltb (base-of k a + j) (base-of k a + b)) (grind (arith, tells))))
 
   equal-gives : (x y : Value) → Fits k x → Fits k y → Gives k (values.equal x y) (Cpu.bit (eqb (addr k x) (addr k y)))
   equal-gives (num x) (num y) f g = bit-gives _ _ refl
-  equal-gives (num x) (place i j) f g = when-gives k (eqb x 0) _ _ (λ e. let p = eqb-true x 0 e in let q = ne-eqb x (base-of k i + j) (λ t. omega (arith, rel .mem .ground .placed .first i (g .0))) in (omega arith, rw q refl))
-  equal-gives (place i j) (num y) f g = when-gives k (eqb y 0) _ _ (λ e. let p = eqb-true y 0 e in let q = ne-eqb (base-of k i + j) y (λ t. omega (arith, rel .mem .ground .placed .first i (f .0))) in (omega arith, rw q refl))
-  equal-gives (place i j) (place a b) f g = when-gives k (eqb i a) _ _ (λ e. let p = eqb-true i a e in rw p (bit-gives (eqb j b) (eqb (base-of k a + j) (base-of k a + b)) (grind (arith, tells))))
+  equal-gives (num x) (place i j) f g = guard-gives k (eqb x 0) _ _ (λ e. let p = eqb-true x 0 e in let q = ne-eqb x (base-of k i + j) (λ t. omega (arith, rel .mem .ground .placed .first i (g .0))) in (omega arith, rw q refl))
+  equal-gives (place i j) (num y) f g = guard-gives k (eqb y 0) _ _ (λ e. let p = eqb-true y 0 e in let q = ne-eqb (base-of k i + j) y (λ t. omega (arith, rel .mem .ground .placed .first i (f .0))) in (omega arith, rw q refl))
+  equal-gives (place i j) (place a b) f g = guard-gives k (eqb i a) _ _ (λ e. let p = eqb-true i a e in rw p (bit-gives (eqb j b) (eqb (base-of k a + j) (base-of k a + b)) (grind (arith, tells))))
 
   two-good : (r a b : ℕ) (f : Value → Value → Option Value) (g : ℕ → ℕ → ℕ) → s .core .here .cell < size-of k (s .core .here .host) → ((x y : Value) → Fits k x → Fits k y → Gives k (f x y) (g (addr k x) (addr k y))) → Good ls k s (c .outs) (steps.two s r a b f) (Cpu.two c (record { o = 0; r = r; a = a; b = b; k = 0 }) g)
   two-good r a b f g low h = on-reg ls k s c rel a _ _ (λ x fx. on-reg ls k s c rel b _ _ (λ y fy. go x y (f x y) (h x y fx fy)))
@@ -101,7 +101,7 @@ module _ (ls : List Library) (k : Layout) (s : State) (c : Processor) (rel : Rel
     add-good r a b = two-good r a b (values.plus s) (λ x y. x + y) low plus-gives
 
     pub sub-good : (r a b : ℕ) → Good ls k s (c .outs) (steps.does ls m s (Sub r a b)) (Cpu.does c (fields (Sub r a b) (s .core .here .cell)))
-    sub-good r a b = two-good r a b (values.minus s) (λ x y. (x + 18446744073709551616) - y) low minus-gives
+    sub-good r a b = two-good r a b (values.minus s) (λ x y. (x + Cpu.all) - y) low minus-gives
 
     pub mul-good : (r a b : ℕ) → Good ls k s (c .outs) (steps.does ls m s (Mul r a b)) (Cpu.does c (fields (Mul r a b) (s .core .here .cell)))
     mul-good r a b = two-good r a b values.times (λ x y. x * y) low times-gives

@@ -1,8 +1,8 @@
 -- One step of the processor, and what it is of the meaning.
-use mathlib.Core.Path.{_≡_, refl, ap, sym, _∙_}
 use mathlib.Core.Bool.{Bool, true, false}
 use mathlib.Core.List.{List, [], _∷_, _++_, map}
 use mathlib.Core.Option.{Option, some, none}
+use mathlib.Core.Path.{_≡_, refl, ap, sym, _∙_}
 use Prim.Native.Nat.{ℕ, _+_, _<_}
 use native.Mathlib.Omega.{arith}
 use lib.Dec.{eqb}
@@ -74,7 +74,11 @@ module _ (k : Layout) (ls : List Library) (m : Room) (s : State) (c : Processor)
       go : (o : Option Held) → steps.own s j ≡ o → Turn k ls m s c
       go none q = fell s (m-step _ e ∙ ap (steps.calls-through s j) q) (sym (rel .outs))
       go (some (val v)) q = fell s (m-step _ e ∙ ap (steps.calls-through s j) q) (sym (rel .outs))
-      go (some (link y none)) q = asked (Call j) e (m-step _ e) f (record { symbol = y; unsettled = q; asks = let t = own-word j (link y none) (low _ e) i q in c-step _ e ∙ rw (t .1, t .2, own-there ls k s c rel m (low _ e) j i) })
+      go (some (link y none)) q = asked (Call j) e (m-step _ e) f (record {
+        symbol = y;
+        unsettled = q;
+        asks = let t = own-word j (link y none) (low _ e) i q in c-step _ e ∙ rw (t .1, t .2, own-there ls k s c rel m (low _ e) j i);
+      })
       go (some (link y (some v))) q = by-good _ e (call-good ls k s c rel m (low _ e) j y v i q)
       go (some (label x)) q = fell s (m-step _ e ∙ ap (steps.calls-through s j) q) (sym (rel .outs))
       go (some (code o)) q = fell s (m-step _ e ∙ ap (steps.calls-through s j) q) (sym (rel .outs))
@@ -84,7 +88,17 @@ module _ (k : Layout) (ls : List Library) (m : Room) (s : State) (c : Processor)
       go : (fs : List Frame) → s .core .frames ≡ fs → Turn k ls m s c
       go [] q = fell s (m-step _ e ∙ ap (calls.returns s) q) (sym (rel .outs))
       go (back p ∷ fs) q = by-good _ e (ret-good ls k s c rel m (low _ e) p fs q)
-      go (pending ps g ∷ fs) q = asked Ret e (m-step _ e) f (record { calls = ps; sequel = g; frames = fs; rest = map (addr-back k) fs ++ rel .backs .rest; newest = q; home = b; backs = record { rest = rel .backs .rest; are = refl; fit = ff .1 }; fits = ff .0; asks = c-step _ e ∙ ap (Cpu.returns c) b })
+      go (pending ps g ∷ fs) q = asked Ret e (m-step _ e) f (record {
+        calls = ps;
+        sequel = g;
+        frames = fs;
+        rest = map (addr-back k) fs ++ rel .backs .rest;
+        newest = q;
+        home = b;
+        backs = record { rest = rel .backs .rest; are = refl; fit = ff .1 };
+        fits = ff .0;
+        asks = c-step _ e ∙ ap (Cpu.returns c) b;
+      })
         where
           b : c .backs ≡ 0 ∷ (map (addr-back k) fs ++ rel .backs .rest)
           b = rel .backs .are ∙ ap (λ x. map (addr-back k) x ++ rel .backs .rest) q
@@ -105,7 +119,13 @@ module _ (k : Layout) (ls : List Library) (m : Room) (s : State) (c : Processor)
       go none q = fell s (m-step _ e ∙ rw q) (sym (rel .outs))
       go (some (val v)) q = fell s (m-step _ e ∙ rw q) (sym (rel .outs))
       go (some (link y o)) q = fell s (m-step _ e ∙ rw q) (sym (rel .outs))
-      go (some (label x)) q = let t = own-word j (label x) (low _ e) i q in asked (Open r j b) e (m-step _ e) f (record { name = x; word = t .0; holds = q; counted = t .2; asks = c-step _ e ∙ rw (t .1, flag b) })
+      go (some (label x)) q = let t = own-word j (label x) (low _ e) i q in asked (Open r j b) e (m-step _ e) f (record {
+        name = x;
+        word = t .0;
+        holds = q;
+        counted = t .2;
+        asks = c-step _ e ∙ rw (t .1, flag b);
+      })
       go (some (code o)) q = fell s (m-step _ e ∙ rw q) (sym (rel .outs))
   on-code (Find r a j) e f i = go (steps.own s j) refl
     where
@@ -118,7 +138,13 @@ module _ (k : Layout) (ls : List Library) (m : Room) (s : State) (c : Processor)
       go none q = fell s (m-step _ e ∙ rw q (nums (values.reg s a))) (sym (rel .outs))
       go (some (val v)) q = fell s (m-step _ e ∙ rw q (nums (values.reg s a))) (sym (rel .outs))
       go (some (link y o)) q = fell s (m-step _ e ∙ rw q (nums (values.reg s a))) (sym (rel .outs))
-      go (some (label x)) q = let t = own-word j (label x) (low _ e) i q in asked (Find r a j) e (m-step _ e) f (record { name = x; word = t .0; holds = q; counted = t .2; asks = c-step _ e ∙ rw (t .1) })
+      go (some (label x)) q = let t = own-word j (label x) (low _ e) i q in asked (Find r a j) e (m-step _ e) f (record {
+        name = x;
+        word = t .0;
+        holds = q;
+        counted = t .2;
+        asks = c-step _ e ∙ rw (t .1);
+      })
       go (some (code o)) q = fell s (m-step _ e ∙ rw q (nums (values.reg s a))) (sym (rel .outs))
   on-code (Close r) e f i = asked (Close r) e (m-step _ e) f (c-step _ e)
   on-code (End r) e f i = asked (End r) e (m-step _ e) f (c-step _ e)

@@ -1,9 +1,9 @@
 -- Modules that keep their libraries, and of which some may be gone: their memory stays as it is.
-use mathlib.Core.Path.{_≡_, refl, ap, sym, _∙_}
 use mathlib.Core.Bool.{true}
 use mathlib.Core.List.{List, [], _∷_}
 use mathlib.Core.Logic.{⊎-elim}
 use mathlib.Core.Option.{Option, some, none}
+use mathlib.Core.Path.{_≡_, refl, ap, sym, _∙_}
 use Prim.Native.Nat.{ℕ}
 use native.Mathlib.Omega.{arith}
 use lib.ListN.{length}
@@ -15,8 +15,8 @@ use Rattle.base.proofs.Lists.{length-put, nth-lt, put-same, put-other}
 use Rattle.library.specs.Library.{at, Library}
 use Rattle.links.specs.Links.{Module, Links, with-modules}
 use Rattle.links.specs.Scope.{live-at}
-use Rattle.links.proofs.Keys.{live-inv, live-from}
 use Rattle.links.specs.Close.{unloaded, unload-all}
+use Rattle.links.proofs.Keys.{live-inv, live-from}
 use Rattle.meaning.specs.State.{Held}
 use Rattle.image.specs.Encode.{apart}
 use Rattle.simulation.specs.Layout.{Layout, Ground}
@@ -38,13 +38,29 @@ module _ (ms ms′ : List Module) (w : Under ms ms′) where
   live-under i x e = let p = live-inv ms′ i x e in let t = w .old i x (p .0) in (t .0, live-from ms i (t .0) (t .1) (t .3 (p .1)), t .2)
 
   ground-under : (k : Layout) (u total : ℕ) → Ground k ms u total → Ground k ms′ u total
-  ground-under k u total g = record { placed = g .placed; apart = record { below = λ i x e. let t = live-under i x e in g .apart .below i (t .0) (t .1); apart = λ i j x y e f d. let t = live-under i x e in let v = live-under j y f in g .apart .apart i j (t .0) (v .0) (t .1) (v .1) d }; one = g .one; room = g .room; count = w .count ∙ g .count; sized = λ i x e. let t = w .old i x e in g .sized i (t .0) (t .1) ∙ ap (λ l. length (l .cells)) (t .2); fine = λ i x e. let t = w .old i x e in rw (t .2) at (g .fine i (t .0) (t .1)) }
+  ground-under k u total g = record {
+    placed = g .placed;
+    apart = record {
+      below = λ i x e. let t = live-under i x e in g .apart .below i (t .0) (t .1);
+      apart = λ i j x y e f d. let t = live-under i x e in let v = live-under j y f in g .apart .apart i j (t .0) (v .0) (t .1) (v .1) d;
+    };
+    one = g .one;
+    room = g .room;
+    count = w .count ∙ g .count;
+    sized = λ i x e. let t = w .old i x e in g .sized i (t .0) (t .1) ∙ ap (λ l. length (l .cells)) (t .2);
+    fine = λ i x e. let t = w .old i x e in rw (t .2) at (g .fine i (t .0) (t .1));
+  }
 
 kept-under : (ls : List Library) (k : Layout) (ws : List ℕ) (i : ℕ) (x y : Module) (hs : List Held) → y .lib ≡ x .lib → Kept ls k ws i y hs → Kept ls k ws i x hs
 kept-under ls k ws i x y hs e a = record { sized = a .sized; slots = λ j s o q. ap (λ l. nth (l .cells) j) (sym e) ∙ a .slots j s o q; cell = a .cell }
 
 pub mem-under : (ls : List Library) (k : Layout) (ks : Links) (css : List (List Held)) (ws : List ℕ) (ms′ : List Module) → Under (ks .modules) ms′ → Mem ls k ks css ws → Mem ls k (with-modules ks ms′) css ws
-mem-under ls k ks css ws ms′ w m = record { ground = ground-under (ks .modules) ms′ w k (ks .used) (length ws) (m .ground); held = m .held ∙ sym (w .count); numbered = m .numbered; cells = λ i x hs e q. let t = live-under (ks .modules) ms′ w i x e in kept-under ls k ws i x (t .0) hs (t .2) (m .cells i (t .0) hs (t .1) q) }
+mem-under ls k ks css ws ms′ w m = record {
+  ground = ground-under (ks .modules) ms′ w k (ks .used) (length ws) (m .ground);
+  held = m .held ∙ sym (w .count);
+  numbered = m .numbered;
+  cells = λ i x hs e q. let t = live-under (ks .modules) ms′ w i x e in kept-under ls k ws i x (t .0) hs (t .2) (m .cells i (t .0) hs (t .1) q);
+}
 
 under-all : (ms ns os : List Module) → Under ms ns → Under ns os → Under ms os
 under-all ms ns os a b = record { count = b .count ∙ a .count; old = λ i x e. let t = b .old i x e in let v = a .old i (t .0) (t .1) in (v .0, v .1, v .2 ∙ t .2, λ h. v .3 (t .3 h)) }

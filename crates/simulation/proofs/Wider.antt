@@ -1,7 +1,7 @@
 -- A layout with more modules: what was there keeps its addresses.
-use mathlib.Core.Path.{_≡_, refl, ap, sym, _∙_}
 use mathlib.Core.List.{List, [], _∷_, _++_}
 use mathlib.Core.Option.{some, none}
+use mathlib.Core.Path.{_≡_, refl, ap, sym, _∙_}
 use Prim.Native.Nat.{ℕ, _+_, _<_, _≤_}
 use native.Mathlib.Omega.{arith}
 use lib.ListN.{length}
@@ -56,7 +56,11 @@ module _ (k k′ : Layout) (w : Wider k k′) where
   at-wider p n x = record { is = x .is ∙ sym (addr-wider (place (p .host) (p .cell)) (x .fit)); fit = fits-place-wider p (x .fit) }
 
   pub backs-wider : (fs : List Frame) (ns : List ℕ) → Backs k fs ns → Backs k′ fs ns
-  backs-wider fs ns x = let r = map-alike (addr-back k′) (addr-back k) (Fits-frame k) (Fits-frame k′) addr-back-wider fits-frame-wider fs (x .fit) in record { rest = x .rest; are = x .are ∙ ap (λ z. z ++ x .rest) (sym (r .0)); fit = r .1 }
+  backs-wider fs ns x = let r = map-alike (addr-back k′) (addr-back k) (Fits-frame k) (Fits-frame k′) addr-back-wider fits-frame-wider fs (x .fit) in record {
+    rest = x .rest;
+    are = x .are ∙ ap (λ z. z ++ x .rest) (sym (r .0));
+    fit = r .1;
+  }
 
   holds-wider : (ls : List Library) (z j : ℕ) (h : Held) (a : ℕ) → Holds ls k z j h a → Holds ls k′ z j h a
   holds-wider ls z j (val v) a x = (x .0 ∙ sym (addr-wider v (x .1)), fits-wider v (x .1))
@@ -67,7 +71,11 @@ module _ (k k′ : Layout) (w : Wider k k′) where
 
   -- the words of what was placed are unchanged
   pub kept-wider : (ls : List Library) (ws ws′ : List ℕ) (i : ℕ) (x : Module) (hs : List Held) → i < length (k .bases) → Kept ls k ws i x hs → ((j : ℕ) → j < size-of k i → nth ws′ (base-of k i + j) ≡ nth ws (base-of k i + j)) → Kept ls k′ ws′ i x hs
-  kept-wider ls ws ws′ i x hs h kx e = record { sized = kx .sized ∙ sym (w .size i h); slots = kx .slots; cell = λ j g q. let t = kx .cell j g q in let l = nth-lt hs j g q in (t .0, rw (w .base i h) (e j (omega (arith, kx .sized)) ∙ t .1), rw (w .size i h) (holds-wider ls (size-of k i) j g (t .0) (t .2))) }
+  kept-wider ls ws ws′ i x hs h kx e = record {
+    sized = kx .sized ∙ sym (w .size i h);
+    slots = kx .slots;
+    cell = λ j g q. let t = kx .cell j g q in let l = nth-lt hs j g q in (t .0, rw (w .base i h) (e j (omega (arith, kx .sized)) ∙ t .1), rw (w .size i h) (holds-wider ls (size-of k i) j g (t .0) (t .2)));
+  }
 
   -- pending calls keep their addresses
   resumes-wider : (f : Sequel) → Fits-sequel k f → resumes k′ f ≡ resumes k f

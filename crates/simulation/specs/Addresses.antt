@@ -45,6 +45,6 @@ pub record Stored (k : Layout) (s t : State) (c d : Processor) : Type 0 where
   pub words : d .words ≡ put (c .words) (base-of k host + cell) (addr k value)
   pub others : (i j : ℕ) (y : Module) → live-at (s .links .modules) i ≡ some y → j ≤ size-of k i → ((i ≡ host) × (j ≡ cell) → ⊥) → nth (d .words) (base-of k i + j) ≡ nth (c .words) (base-of k i + j)
 
--- a step that has meaning changes no word, or the one word of the cell that it writes: every other cell of live modules, and the word behind each, stays
+-- where a step has meaning, the processor changes no word, or the one word of the cell that is written: every other cell of live modules, and the word behind each, keeps its own
 abbrev pub Stores-own : Type 0
 Stores-own = (ls : List Library) (k : Layout) (m : Room) (s t : State) (c : Processor) → Rel ls k s c → steps.step ls m s ≡ goes t → (Cpu.step c .cpu .words ≡ c .words) ⊎ Stored k s t c (Cpu.step c .cpu)

@@ -20,7 +20,7 @@ use Rattle.links.specs.Close.{leaving, unload, close-group, fini-calls, is-open
 use Rattle.meaning.specs.State.{State, ended, lost, place-of}
 use Rattle.meaning.specs.Runs.{blank}
 use Rattle.processor.specs.Cpu
-use Rattle.processor.specs.Cpu.{Processor, Event, poked, called, gone, with-reg, fresh}
+use Rattle.processor.specs.Cpu.{Processor, Event, poked, called, gone, with-reg, fresh, wide}
 use Rattle.processor.specs.Laid.{with-words}
 use Rattle.simulation.specs.Layout.{Layout, base-of, size-of, addr, addr-place, Fits-place}
 use Rattle.simulation.specs.Rows.{Resume, resume, discard, finish, stop, Row, row, closing-rows}
@@ -140,4 +140,4 @@ nothing-loaded = record { layout = record { bases = []; sizes = [] }; links = bl
 
 -- a text whose first library has a main and can be loaded: on a fresh processor, with its images laid down, its inits and main are pending
 abbrev pub Begins : Type 0
-Begins = (t : List ℕ) (ws : List ℕ) (gap : ℕ) (ins : List ℕ) (l : Library) (ls : List Library) (k : ℕ) (q : Loaded) → reads t ≡ some (l ∷ ls) → length ws < 4294967296 → find-def true (l .defs) (record { name = main-name; version = any-version }) ≡ some k → load (l ∷ ls) (Room-of (length ws) gap) (l .name) true (blank ins .links) ≡ some q → (s : State) × Starts t (length ws) gap ins (l ∷ ls) s × Opened (record { libs = l ∷ ls; memory = Room-of (length ws) gap; begin = s }) nothing-loaded 0 (fresh ws ins) q (q .calls ++ (place-at 0 k ∷ [])) (finish 0)
+Begins = (t : List ℕ) (ws : List ℕ) (gap : ℕ) (ins : List ℕ) (l : Library) (ls : List Library) (k : ℕ) (q : Loaded) → reads t ≡ some (l ∷ ls) → length ws < wide → find-def true (l .defs) (record { name = main-name; version = any-version }) ≡ some k → load (l ∷ ls) (Room-of (length ws) gap) (l .name) true (blank ins .links) ≡ some q → (s : State) × Starts t (length ws) gap ins (l ∷ ls) s × Opened (record { libs = l ∷ ls; memory = Room-of (length ws) gap; begin = s }) nothing-loaded 0 (fresh ws ins) q (q .calls ++ (place-at 0 k ∷ [])) (finish 0)
