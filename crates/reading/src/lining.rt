@@ -45,7 +45,7 @@ impl<'t, 'a> Parts<'t, 'a> {
     }
 
     // The library that was being read, if any, is done.
-    pub fn finish(&mut self, held: Option<Draft>) -> Result<(), BadLine>
+    pub(crate) fn finish(&mut self, held: Option<Draft>) -> Result<(), BadLine>
         requires kept { ⌜ Kept (now self) held ⌝ }
         requires room { ⌜ Room (now self .tables) (opened held) 0 ⌝ }
         ensures { λ r. ⌜ Cases r (λ _. Finished (now (self .entry)) (now (self .exit)) held) (λ e. finished (progress (store (now (self .entry) .tables)) held) ≡ Err e) ⌝ }
@@ -121,7 +121,7 @@ impl<'t, 'a> Parts<'t, 'a> {
     }
 
     // A line of the text.
-    pub fn line(
+    pub(crate) fn line(
         &mut self,
         number: usize,
         held: Option<Draft>,

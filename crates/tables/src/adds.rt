@@ -16,7 +16,7 @@ use text::reader::Span;
 
 // One row more each; there is room for it.
 impl<'t, 'a> Tables<'t, 'a> {
-    pub fn add_need(&mut self, name: Span)
+    pub(crate) fn add_need(&mut self, name: Span)
         requires fits { ⌜ Fits (now self) ⌝ }
         requires wide { ⌜ Wide (now self) ⌝ }
         requires room { ⌜ Room (now self) 0 1 ⌝ }
@@ -26,7 +26,7 @@ impl<'t, 'a> Tables<'t, 'a> {
         self.needs.push(&row);
     }
 
-    pub fn add_definition(&mut self, definition: Definition<Span>)
+    pub(crate) fn add_definition(&mut self, definition: Definition<Span>)
         requires fits { ⌜ Fits (now self) ⌝ }
         requires wide { ⌜ Wide (now self) ⌝ }
         requires room { ⌜ Room (now self) 0 1 ⌝ }
@@ -36,7 +36,7 @@ impl<'t, 'a> Tables<'t, 'a> {
         self.defs.push(&row);
     }
 
-    pub fn add_initializer(&mut self, cell: CellNo)
+    pub(crate) fn add_initializer(&mut self, cell: CellNo)
         requires fits { ⌜ Fits (now self) ⌝ }
         requires wide { ⌜ Wide (now self) ⌝ }
         requires room { ⌜ Room (now self) 0 1 ⌝ }
@@ -46,7 +46,7 @@ impl<'t, 'a> Tables<'t, 'a> {
         self.inits.push(&row);
     }
 
-    pub fn add_finalizer(&mut self, cell: CellNo)
+    pub(crate) fn add_finalizer(&mut self, cell: CellNo)
         requires fits { ⌜ Fits (now self) ⌝ }
         requires wide { ⌜ Wide (now self) ⌝ }
         requires room { ⌜ Room (now self) 0 1 ⌝ }
@@ -56,7 +56,7 @@ impl<'t, 'a> Tables<'t, 'a> {
         self.finis.push(&row);
     }
 
-    pub fn add_cell(&mut self, cell: Cell<Span>)
+    pub(crate) fn add_cell(&mut self, cell: Cell<Span>)
         requires fits { ⌜ Fits (now self) ⌝ }
         requires wide { ⌜ Wide (now self) ⌝ }
         requires room { ⌜ Room (now self) 0 1 ⌝ }

@@ -42,7 +42,7 @@ fn cell_reach(cell: Cell<Span>) -> u64
 }
 
 // One more than the cell of its library that a line names; 0 where it names none.
-pub fn item_reach(item: Item<Span>) -> u64
+pub(crate) fn item_reach(item: Item<Span>) -> u64
     ensures { λ r. ⌜ ((t : List ℕ) → r ≡ item-reach (item-of (bytes t) item)) ⌝ }
 {
     match item {
