@@ -56,6 +56,17 @@ static int is(const uint8_t *text, Span w, const char *keyword) {
     return w.end - w.start == n && memcmp(text + w.start, keyword, n) == 0;
 }
 
+// A keyword, at most 8 bytes, as one number; 0 for a longer word.
+static uint64_t packed(const uint8_t *word, size_t n) {
+    uint64_t p = 0;
+    if (n > 8) return 0;
+    for (size_t i = 0; i < n; i++) p = p << 8 | word[i];
+    return p;
+}
+
+enum { FORMS = sizeof forms / sizeof *forms };
+static uint64_t keywords[FORMS];
+
 static int next_word(Reader *r, Span *w) {
     while (r->pos < r->end && r->text[r->pos] == 32) r->pos++;
     if (r->pos == r->end) return 0;
@@ -84,8 +95,8 @@ static int choice(const uint8_t *text, Span w, const char *yes, const char *no, 
 static uint64_t *push(Table *t) { return t->words + t->width * t->len++; }
 
 static size_t bucket(const uint8_t *text, Span w, size_t buckets) {
-    uint64_t h = 14695981039346656037u;
-    for (size_t i = w.start; i < w.end; i++) h = (h ^ text[i]) * 1099511628211u;
+    uint32_t h = 7;
+    for (size_t i = w.start; i < w.end; i++) h = h * 31 + text[i];
     return h % buckets;
 }
 
@@ -123,9 +134,10 @@ static int operand(const uint8_t *text, Span w, enum Kind kind, uint64_t *out) {
 
 static int item(Catalog *c, Draft *d, size_t line, Reader *r, Span keyword) {
     const Form *form = NULL;
-    for (size_t i = 0; i < sizeof forms / sizeof *forms && !form; i++)
-        if (is(r->text, keyword, forms[i].keyword)) form = &forms[i];
-    if (!form) return 0;
+    uint64_t key = packed(r->text + keyword.start, keyword.end - keyword.start);
+    for (int i = 0; i < FORMS && !form; i++)
+        if (keywords[i] == key) form = &forms[i];
+    if (!form || r->text[keyword.start] == 0) return 0;
     uint64_t words[8] = {0};
     size_t n = 0;
     Span w;
@@ -218,6 +230,7 @@ static double now(void) {
 }
 
 int main(int argc, char **argv) {
+    for (int i = 0; i < FORMS; i++) keywords[i] = packed((const uint8_t *)forms[i].keyword, strlen(forms[i].keyword));
     for (int a = 1; a < argc; a++) {
         size_t size = strtoull(argv[a], NULL, 10);
         char *text = malloc(size + 1000);

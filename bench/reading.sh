@@ -1,9 +1,9 @@
 #!/bin/sh
 # Times the catalog and the plain C reader on the same texts, one size after the other. Usage: bench/reading.sh [SIZE..]
-# It takes 16 words for each byte: 1.3 GB at 10 MB, 6.4 GB at 50 MB.
+# It takes 16 words for each byte: 1.3 GB at 10 MB, 13 GB at 100 MB.
 set -eu
 cd "$(dirname "$0")/.."
-[ $# -gt 0 ] || set -- 1000000 10000000 50000000
+[ $# -gt 0 ] || set -- 1000000 10000000 100000000
 rt check reading_bench > /dev/null
 plain=$(mktemp -d)
 trap 'rm -rf "$plain"' EXIT
