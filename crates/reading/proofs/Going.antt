@@ -7,7 +7,6 @@ use native.Mathlib.Omega.{arith}
 use lib.ListN.{length}
 use Rattle.std.specs.declared.option.Option.{Option}
 use Rattle.std.specs.declared.option.Option.the-variants as opt
-use Rattle.std.specs.declared.result.Result.the-variants.{Err}
 use Rattle.std.specs.shelf.Lists.{All}
 use Rattle.std.proofs.shelf.Parts.{between-to-end}
 use Rattle.base.specs.Choices.{on-ok}
@@ -16,8 +15,7 @@ use Rattle.text.specs.Words.{cut, words-of, lines-of}
 use Rattle.text.specs.Readers.{bytes, pieces, size}
 use Rattle.text.specs.declared.reader.Reader.{Reader}
 use Rattle.text.specs.declared.reader.Span.{Span}
-use Rattle.library.specs.Text.{line, lines, finished, nothing-read, read}
-use Rattle.library.specs.declared.faults.BadLine.{BadLine}
+use Rattle.library.specs.Text.{line, lines, nothing-read, read}
 use Rattle.lent.specs.Tables.{rows-of}
 use Rattle.lent.specs.Indexes.{Holds}
 use Rattle.lent.proofs.Rows.{rows-none}
@@ -25,7 +23,7 @@ use Rattle.tables.specs.declared.tables.Tables.{Tables}
 use Rattle.reading.specs.declared.parts.Parts.{Parts}
 use Rattle.tables.specs.declared.tables.Draft.{Draft}
 use Rattle.tables.specs.Store.{store, library-at, done, progress, libraries, Inside, Sound, Room, opened, buckets, Named}
-use Rattle.reading.specs.Steps.{Kept, Finished, Lined, takes-rows, Blank, Whole}
+use Rattle.reading.specs.Steps.{Kept, Lined, takes-rows, Blank}
 use Rattle.reading.proofs.Linewise.{room-less}
 
 -- so far all went well: what is left of the text x gives what all of it gives
@@ -106,18 +104,3 @@ going-on p u n m o s r q x part g e f l h w = record {
   short = g .short;
   reads = (let v : m ≡ suc n = omega arith in ap (λ k. lines k (progress (store (u .tables)) s) (map words-of (pieces 10 q))) v ∙ ap (λ y. on-ok y (λ z. lines (suc n) z (map words-of (pieces 10 q)))) (sym (h .line)) ∙ next-line p n o r q x part g e);
 }
-
-pub going-stops : (p : Parts) (n : ℕ) (o : Option Draft) (r q : Reader) (x : Name) (part : Span) (b : BadLine) → Going p n o r x → pieces 10 r ≡ bytes (r .text .now) part ∷ pieces 10 q → line n (progress (store (p .tables)) o) (words-of (bytes (p .tables .text .now) part)) ≡ Err b → read x ≡ Err b
-going-stops p n o r q x part b g e h = sym (next-line p n o r q x part g e) ∙ ap (λ y. on-ok y (λ z. lines (suc n) z (map words-of (pieces 10 q)))) h
-
-at-end : (p : Parts) (n : ℕ) (o : Option Draft) (r : Reader) (x : Name) → Going p n o r x → pieces 10 r ≡ [] → finished (progress (store (p .tables)) o) ≡ read x
-at-end p n o r x g e = ap (λ ps. lines n (progress (store (p .tables)) o) (map words-of ps)) (sym e) ∙ g .reads
-
-pub going-last : (p : Parts) (n : ℕ) (o : Option Draft) (r : Reader) (x : Name) → Going p n o r x → Room (p .tables) (opened o) 0
-going-last p n o r x g = room-less (p .tables) (opened o) (size r / 2) 0 (omega arith) (g .room)
-
-pub going-end : (p q : Parts) (n : ℕ) (o : Option Draft) (r : Reader) (x : Name) → Going p n o r x → pieces 10 r ≡ [] → Finished p q o → Whole q x
-going-end p q n o r x g e h = record { ready = record { fits = h .kept .fits; named = h .kept .named }; libraries = sym (at-end p n o r x g e) ∙ h .done }
-
-pub going-bad : (p : Parts) (n : ℕ) (o : Option Draft) (r : Reader) (x : Name) (b : BadLine) → Going p n o r x → pieces 10 r ≡ [] → finished (progress (store (p .tables)) o) ≡ Err b → read x ≡ Err b
-going-bad p n o r x b g e h = sym (at-end p n o r x g e) ∙ h
