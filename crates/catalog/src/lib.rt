@@ -1,4 +1,6 @@
 // The libraries of a text, in lent words.
+#![tactic(auto)]
+
 pub mod catalog;
 mod looks;
 mod opening;

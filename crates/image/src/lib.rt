@@ -1,4 +1,6 @@
 // The image of a library: the word of each cell, at the address where the library lies.
+#![tactic(auto)]
+
 ghost use Rattle.std.specs.Prelude.{◌≡◌};
 ghost use Rattle.base.specs.Choices.{found};
 ghost use Rattle.base.specs.Names.{Name};

@@ -1,4 +1,6 @@
 // Instructions, by their keyword and operands.
+#![tactic(auto)]
+
 ghost use Rattle.std.specs.Prelude.{◌≡◌, Ok, Err, MatchResult};
 ghost use Rattle.text.specs.Readers.{words};
 ghost use Rattle.library.specs.Lines.{operands, instruction_line, ternary, unary_of};

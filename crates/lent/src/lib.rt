@@ -1,4 +1,6 @@
 // Tables, queues and indexes in words that the caller lends.
+#![tactic(auto)]
+
 pub mod index;
 pub mod queue;
 pub mod table;

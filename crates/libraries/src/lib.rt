@@ -1,4 +1,6 @@
 // The libraries of a text as all that links them sees them: one by one, by number.
+#![tactic(auto)]
+
 ghost use Rattle.std.specs.Prelude.{◌≡◌, List, length};
 ghost use Rattle.std.specs.Option.{option_map};
 ghost use Rattle.base.specs.Choices.{found, over};

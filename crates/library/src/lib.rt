@@ -1,4 +1,6 @@
 // What a library is, as types; the text that libraries are written in; what can be wrong with it.
+#![tactic(auto)]
+
 ghost use Rattle.library.specs.Fine.{«ReadsFine»};
 
 pub mod faults;

@@ -1,4 +1,6 @@
 // Lists the libraries of a text: what each needs and defines, and how many cells, initializers and finalizers it has.
+#![tactic(auto)]
+
 mod failure;
 mod listing;
 mod sources;

@@ -1,4 +1,5 @@
 // What is loaded and bound: definitions, and what holds of them. Each function's contract is a theorem.
+#![tactic(auto)]
 
 ghost use Rattle.links.specs.Laws.{«ClosureOnce», «ResolveStable», «LoadAppends», «RetainedClosed», «KeepsLinked», «LeavingBySet», «RetainsMore»};
 ghost use Rattle.links.specs.Reach.{«ClosureReaches», «OrderRight»};

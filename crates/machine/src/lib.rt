@@ -1,4 +1,6 @@
 // A processor in lent words: memory, registers, what it returns to, what was pushed, input, and a log of what was shown.
+#![tactic(auto)]
+
 mod arithmetic;
 mod building;
 mod exec;

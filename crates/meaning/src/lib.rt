@@ -1,4 +1,5 @@
 // What a program means, by places: definitions, and what holds of them. Each function's contract is a theorem.
+#![tactic(auto)]
 
 ghost use Rattle.meaning.specs.Shown.{«SameShown», «SameEnd»};
 ghost use Rattle.meaning.specs.Always.{«ShownGrows», «UsedGrows», «UsedFits», «RunsWhole», «CellsLast», «GoneStays», «OpenRefused»};

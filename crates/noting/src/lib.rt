@@ -1,4 +1,6 @@
 // Any processor, with notes of what was poked where: for tests.
+#![tactic(auto)]
+
 ghost use Rattle.std.specs.Prelude.{◌≡◌, ◌+◌, ◌<◌, ◌≤◌, min, true, [], length};
 ghost use Rattle.processor.specs.Cpu.{step, poked, called, gone, «with_reg»};
 ghost use Rattle.processor.specs.Told.{Tells};

@@ -1,4 +1,6 @@
 // The words of a line, one after the other, as what they stand for.
+#![tactic(auto)]
+
 ghost use Rattle.std.specs.Prelude.{◌≡◌, [], IfOk, Ok, Err, MatchResult, ◌≢◌};
 ghost use Rattle.text.specs.Readers.{bytes, Within, words};
 ghost use Rattle.library.specs.Keywords.{k_all, k_inner, k_must, k_may};

@@ -1,4 +1,6 @@
 // A processor that knows nothing of libraries: what its steps come to, the trait by which others have it, and its instruction words.
+#![tactic(auto)]
+
 ghost use Rattle.std.specs.Prelude.{◌≡◌, ℕ, ◌+◌, ◌<◌, ◌≤◌, min, length, slice_index};
 ghost use Rattle.processor.specs.Cpu.{Processor, step, poked, called, gone, «with_reg»};
 ghost use Rattle.processor.specs.Told.{Tells};

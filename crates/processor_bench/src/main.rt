@@ -1,4 +1,6 @@
 // Two loops run on the machine, for so many rounds each: the first argument's rounds of arithmetic, the second's of calls.
+#![tactic(auto)]
+
 ghost use Rattle.std.specs.Prelude.{◌≤◌};
 
 mod programs;

@@ -1,4 +1,6 @@
 // Makes texts of libraries and reads them. With sizes as arguments, prints how long it takes to read a byte.
+#![tactic(auto)]
+
 use catalog::catalog::Catalog;
 use library::types::LibraryId;
 use std::alloc::{AllocError, Global};

@@ -1,4 +1,6 @@
 // Reads texts that are right and texts that are wrong, and prints what comes of each.
+#![tactic(auto)]
+
 mod made;
 mod verdict;
 

@@ -1,4 +1,6 @@
 // The meaning of a program, by places, and the processor that runs it, by addresses: theorems. Each function's contract is one.
+#![tactic(auto)]
+
 ghost use Rattle.simulation.specs.Addresses.{«CellsApart», «PlaceNot0», «BehindAlone», «StoresOwn»};
 ghost use Rattle.simulation.specs.Turns.{Turns};
 ghost use Rattle.simulation.specs.Handlers.{«StepHeard», «RowGoesOn», Begins};

@@ -1,4 +1,6 @@
 // Libraries and their parts, in tables of lent words.
+#![tactic(auto)]
+
 mod adds;
 mod drafts;
 mod names;

@@ -1,4 +1,6 @@
 // Parts of a byte text: lines, words and numbers.
+#![tactic(auto)]
+
 pub mod number;
 pub mod reader;
 pub mod reading;

@@ -9,7 +9,7 @@ pub returns-then-c-lt48 : goal.returns-then-c-lt48
 returns-then-c-lt48 c = record { value = ends_none c.args.word.now c.args.limit c.loop-b.b-index c.loop-b.n c.loop-b.invariant c.loop-b-test.true (omega arith) c.then-c-lt48.either; bound = tt }
 
 pub loop-b-preserved : goal.loop-b-preserved
-loop-b-preserved c = goes_by _ _ c.loop-b.n _ _ _ c.saturating-add-n.ensures c.saturating-mul.ensures c.from.ensures c.loop-b-test.true c.if-c-lt48.false c.if-c-gt57.false c.loop-b.invariant
+loop-b-preserved c = goes_by _ _ c.loop-b.n _ _ _ c.saturating_add-n.ensures c.saturating_mul.ensures c.from.ensures c.loop-b-test.true c.if-c-lt48.false c.if-c-gt57.false c.loop-b.invariant
 
 pub returns-then-n-limit : goal.returns-then-n-limit
 returns-then-n-limit c = record { value = sym (ap (λ b. guard b (some c.loop-b.n)) (lt-ltb _ _ c.if-n-limit.true)) ∙ ends_with c.args.word.now c.args.limit c.loop-b.b-index c.loop-b.n c.loop-b.invariant c.loop-b-test.false (omega arith) c.if-word-eq0.false; bound = c.if-n-limit.true }

@@ -3,6 +3,6 @@ use Rattle.lent.proofs.Newest.{is_newest}
 
 pub returns : goal.returns
 returns c = record {
-  value = c.entry-at.ensures;
-  newest = λ bs n x l. simp c.entry-at.ensures (is_newest bs c.args.h n _ (x.by_bucket c.args.h l));
+  value = c.entry_at.ensures;
+  newest = λ bs n x l. simp c.entry_at.ensures (is_newest bs c.args.h n _ (x.by_bucket c.args.h l));
 }

@@ -5,6 +5,6 @@ use Rattle.lent.specs.Indexes.{newest}
 
 pub returns : goal.returns
 returns c = record {
-  value = c.entry-at.ensures;
-  newest = λ bs n h x l e. simp c.entry-at.ensures (is_newest bs h c.args.k _ (x.by_entry c.args.k l ∙ ap (λ g. newest bs g c.args.k) e));
+  value = c.entry_at.ensures;
+  newest = λ bs n h x l e. simp c.entry_at.ensures (is_newest bs h c.args.k _ (x.by_entry c.args.k l ∙ ap (λ g. newest bs g c.args.k) e));
 }

@@ -14,7 +14,7 @@ word n w i j rs row (Some x) h l e f = (h, omega (arith, f.3.0), f.3.1 0 ∙ ap 
 pub returns : goal.returns
 returns g c =
     let rs = rows_in g.row.W c.args.self.now in
-    let row = c.in-ok-row.field-0.now in
-    let s = c.in-ok-row.ensures in
+    let row = c.in_ok-row.field-0.now in
+    let s = c.in_ok-row.ensures in
     let e : get_or rs c.args.i [] ≡ row = nth-getD rs c.args.i row [] (sym {b = nth rs c.args.i} s.value) in
-    simp c.copied.ensures (word c.args.self.now.len g.row.W c.args.i c.args.j rs row c.get.result s.size.0 s.size.1 e c.get.ensures.finds)
+    simp c.copied.ensures (word c.args.self.now.len g.row.W c.args.i c.args.j rs row c.get.result s.size.0 s.size.1 e c.get.ensures.lookup)

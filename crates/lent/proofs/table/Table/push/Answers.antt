@@ -10,13 +10,13 @@ returns g c =
     let w = g.row.W in
     let n = c.args.self.now.len in
     let ws = c.args.self.now.words.now in
-    let x = c.copy-from-slice.new.self in
+    let x = c.copy_from_slice.new.self in
     let room : w * n + w ≤ length ws = omega arith in
     let l : length x ≡ w = omega (arith, length-between ws (w * n) (w * n + w) room) in
     let size = words_len w n (w * n + w - w * n) ws x room l (omega arith) in
     record {
       value = sym (le-leb _ _ room);
-      rows = rows_push w ws x n _ c.requires.fits l (omega arith) ∙ ap (λ u. rows_of w ws n ++ u ∷ []) c.copy-from-slice.ensures.after;
+      rows = rows_push w ws x n _ c.requires.fits l (omega arith) ∙ ap (λ u. rows_of w ws n ++ u ∷ []) c.copy_from_slice.ensures.after;
       len = omega arith;
       size = size;
       same = λ e. cc;

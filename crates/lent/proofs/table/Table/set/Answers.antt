@@ -34,13 +34,13 @@ returns g c =
     let i = c.args.i in
     let n = c.args.self.now.len in
     let ws = c.args.self.now.words.now in
-    let x = c.copy-from-slice.new.self in
+    let x = c.copy_from_slice.new.self in
     let room : w * i + w ≤ length ws = omega (arith, row_end w i n (omega arith)) in
     let l : length x ≡ w = omega (arith, length-between ws (w * i) (w * i + w) room) in
     let size = words_len w i (w * i + w - w * i) ws x room l (omega arith) in
     record {
       value = sym (lt-ltb _ _ (omega arith));
-      rows = rows_put w ws x n i (w * i + w - w * i) (omega arith) (omega arith) l (omega arith) ∙ ap (put (rows_of w ws n) i) c.copy-from-slice.ensures.after;
+      rows = rows_put w ws x n i (w * i + w - w * i) (omega arith) (omega arith) l (omega arith) ∙ ap (put (rows_of w ws n) i) c.copy_from_slice.ensures.after;
       len = refl;
       size = size;
       same = λ e. cc;

@@ -13,8 +13,8 @@ unfolding pieces size
 returns-then-n-self c = record {
   text = refl;
   within = (omega arith, omega arith);
-  pieces = mid_first _ _ _ c.args.self.now.stop c.run-len-n.result _ c.if-not-self.false c.args.self.now.order c.args.self.now.within c.run-len-n.ensures.value c.if-n-self.true;
-  falls = mid_falls _ _ c.args.self.now.stop c.run-len-n.result _ c.if-not-self.false c.args.self.now.within c.if-n-self.true;
+  pieces = mid_first _ _ _ c.args.self.now.stop c.run_len-n.result _ c.if-not-self.false c.args.self.now.order c.args.self.now.within c.run_len-n.ensures.value c.if-n-self.true;
+  falls = mid_falls _ _ c.args.self.now.stop c.run_len-n.result _ c.if-not-self.false c.args.self.now.within c.if-n-self.true;
 }
 
 pub returns : goal.returns
@@ -22,6 +22,6 @@ unfolding pieces size
 returns c = record {
   text = refl;
   within = (let l = length-between c.args.self.now.text.now c.args.self.now.pos c.args.self.now.stop c.args.self.now.within in (omega arith, omega arith));
-  pieces = mid_last _ _ _ c.args.self.now.stop c.run-len-n.result _ c.if-not-self.false c.args.self.now.order c.args.self.now.within c.run-len-n.ensures.value c.if-n-self.false;
-  falls = mid_ends _ _ c.args.self.now.stop c.run-len-n.result _ c.if-not-self.false c.args.self.now.order c.args.self.now.within c.run-len-n.ensures.bound;
+  pieces = mid_last _ _ _ c.args.self.now.stop c.run_len-n.result _ c.if-not-self.false c.args.self.now.order c.args.self.now.within c.run_len-n.ensures.value c.if-n-self.false;
+  falls = mid_ends _ _ c.args.self.now.stop c.run_len-n.result _ c.if-not-self.false c.args.self.now.order c.args.self.now.within c.run_len-n.ensures.bound;
 }
