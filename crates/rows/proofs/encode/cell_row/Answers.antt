@@ -4,4 +4,4 @@ use Rattle.rows.proofs.Back.{cell_back}
 use Rattle.rows.proofs.encode.cell_row.Goals as goal
 
 pub returns : goal.returns
-returns c t = ap (cell_at t) c.words-of.ensures.row ∙ cell_back t c.args.cell c.words-of.ensures.small
+returns c t = ap (cell_at t) c.words_of.ensures.row ∙ cell_back t c.args.cell c.words_of.ensures.small

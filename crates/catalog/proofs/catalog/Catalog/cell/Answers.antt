@@ -9,14 +9,14 @@ use Rattle.tables.specs.Store.{store, library_at}
 use Rattle.catalog.proofs.Looking.{no_part, the_part}
 use Rattle.catalog.proofs.catalog.Catalog.cell.Goals as goal
 
-pub returns-in-err-k : goal.returns-in-err-k
+pub returns-in_err-k : goal.returns-in_err-k
 unfolding store library_at
-returns-in-err-k c = ap (λ r. over (cell_of (λ x. x.now)) (found r)) c.from-residual.ensures ∙ no_part (store c.args.self.now.parts.tables) c.args.id.0 11 c.args.j (λ (l : Library). l.cells) (store c.args.self.now.parts.tables).cells (λ r. refl) c.in-err-k.ensures
+returns-in_err-k c = ap (λ r. over (cell_of (λ x. x.now)) (found r)) c.from_residual.ensures ∙ no_part (store c.args.self.now.parts.tables) c.args.id.0 11 c.args.j (λ (l : Library). l.cells) (store c.args.self.now.parts.tables).cells (λ r. refl) c.in_err-k.ensures
 
-pub returns-in-err-row : goal.returns-in-err-row
+pub returns-in_err-row : goal.returns-in_err-row
 unfolding store library_at
-returns-in-err-row c = ap (λ r. over (cell_of (λ x. x.now)) (found r)) c.from-residual-in-err-row.ensures ∙ the_part (store c.args.self.now.parts.tables) c.args.id.0 11 c.args.j c.in-ok-k.k (λ (l : Library). l.cells) (cell_at c.args.self.now.parts.tables.text.now) (rows_in 6 c.args.self.now.parts.tables.cells) none (λ r. refl) c.in-ok-k.ensures c.in-err-row.ensures.value
+returns-in_err-row c = ap (λ r. over (cell_of (λ x. x.now)) (found r)) c.from_residual-in_err-row.ensures ∙ the_part (store c.args.self.now.parts.tables) c.args.id.0 11 c.args.j c.in_ok-k.k (λ (l : Library). l.cells) (cell_at c.args.self.now.parts.tables.text.now) (rows_in 6 c.args.self.now.parts.tables.cells) none (λ r. refl) c.in_ok-k.ensures c.in_err-row.ensures.value
 
 pub returns : goal.returns
 unfolding store library_at
-returns c = ap some (c.cell-2.ensures ∙ c.cell.ensures c.args.self.now.parts.tables.text.now) ∙ the_part (store c.args.self.now.parts.tables) c.args.id.0 11 c.args.j c.in-ok-k.k (λ (l : Library). l.cells) (cell_at c.args.self.now.parts.tables.text.now) (rows_in 6 c.args.self.now.parts.tables.cells) (some c.in-ok-row.row.now) (λ r. refl) c.in-ok-k.ensures c.in-ok-row.ensures.value
+returns c = ap some (c.cell-2.ensures ∙ c.cell.ensures c.args.self.now.parts.tables.text.now) ∙ the_part (store c.args.self.now.parts.tables) c.args.id.0 11 c.args.j c.in_ok-k.k (λ (l : Library). l.cells) (cell_at c.args.self.now.parts.tables.text.now) (rows_in 6 c.args.self.now.parts.tables.cells) (some c.in_ok-row.row.now) (λ r. refl) c.in_ok-k.ensures c.in_ok-row.ensures.value

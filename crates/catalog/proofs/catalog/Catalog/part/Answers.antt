@@ -4,14 +4,14 @@ use Rattle.tables.specs.Store.{store}
 use Rattle.catalog.proofs.Looking.{part_none, part_in, part_out}
 use Rattle.catalog.proofs.catalog.Catalog.part.Goals as goal
 
-pub returns-in-err-row : goal.returns-in-err-row
+pub returns-in_err-row : goal.returns-in_err-row
 unfolding store
-returns-in-err-row c = ap found c.from-residual.ensures ∙ part_none (store c.args.self.now.parts.tables) c.args.i c.args.at c.args.j c.in-err-row.ensures.value
+returns-in_err-row c = ap found c.from_residual.ensures ∙ part_none (store c.args.self.now.parts.tables) c.args.i c.args.at c.args.j c.in_err-row.ensures.value
 
-pub returns-then-j-saturating-sub : goal.returns-then-j-saturating-sub
+pub returns-then-j-saturating_sub : goal.returns-then-j-saturating_sub
 unfolding store
-returns-then-j-saturating-sub c = part_in (store c.args.self.now.parts.tables) c.args.i c.args.at c.args.j _ c.in-ok-row.row.now c.in-ok-row.ensures.value c.saturating-sub.ensures c.if-j-saturating-sub.true
+returns-then-j-saturating_sub c = part_in (store c.args.self.now.parts.tables) c.args.i c.args.at c.args.j _ c.in_ok-row.row.now c.in_ok-row.ensures.value c.saturating_sub.ensures c.if-j-saturating_sub.true
 
 pub returns : goal.returns
 unfolding store
-returns c = part_out (store c.args.self.now.parts.tables) c.args.i c.args.at c.args.j _ c.in-ok-row.row.now c.in-ok-row.ensures.value c.saturating-sub.ensures c.if-j-saturating-sub.false
+returns c = part_out (store c.args.self.now.parts.tables) c.args.i c.args.at c.args.j _ c.in_ok-row.row.now c.in_ok-row.ensures.value c.saturating_sub.ensures c.if-j-saturating_sub.false

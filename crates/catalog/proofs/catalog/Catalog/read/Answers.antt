@@ -1,7 +1,7 @@
 use Rattle.catalog.proofs.catalog.Catalog.read.Goals as goal
 
-pub invariant-of-result : goal.invariant-of-result
-invariant-of-result c =
+pub invariant_of-result : goal.invariant_of-result
+invariant_of-result c =
     let p = c.settle-fault.ensures.ready in
     let f = p.fits in
     let n = p.named in

@@ -13,18 +13,18 @@ use Rattle.catalog.proofs.catalog.Catalog.sizes.Goals as goal
 made : (a b c d e p q r s t : ℕ) → a ≡ p → b ≡ q → c ≡ r → d ≡ s → e ≡ t → ◌≡◌ {A = Sizes} (record { needs = a; definitions = b; initializers = c; finalizers = d; cells = e }) (record { needs = p; definitions = q; initializers = r; finalizers = s; cells = t })
 made a b c d e p q r s t f g h i j = cc
 
-pub returns-in-err-row : goal.returns-in-err-row
+pub returns-in_err-row : goal.returns-in_err-row
 unfolding store
-returns-in-err-row c = ap found c.from-residual.ensures ∙ no_row (store c.args.self.now.parts.tables) c.args.id.0 (λ l. some (sizes_of l)) c.in-err-row.ensures.value
+returns-in_err-row c = ap found c.from_residual.ensures ∙ no_row (store c.args.self.now.parts.tables) c.args.id.0 (λ l. some (sizes_of l)) c.in_err-row.ensures.value
 
 pub returns : goal.returns
 unfolding store library_at
 returns c =
     let t = c.args.self.now.parts.tables in
-    let r = c.in-ok-row.row.now in
+    let r = c.in_ok-row.row.now in
     let a = part_count (get_or r 3 0) (get_or r 4 0) _ (store t).needs (rows_count (name_at t.text.now) 2 t.needs.words.now t.needs.len) in
     let b = part_count (get_or r 5 0) (get_or r 6 0) _ (store t).defs (rows_count (definition_at t.text.now) 6 t.defs.words.now t.defs.len) in
     let d = part_count (get_or r 7 0) (get_or r 8 0) _ (store t).inits (rows_count number_at 1 t.inits.words.now t.inits.len) in
     let e = part_count (get_or r 9 0) (get_or r 10 0) _ (store t).finis (rows_count number_at 1 t.finis.words.now t.finis.len) in
     let f = part_count (get_or r 11 0) (get_or r 12 0) _ (store t).cells (rows_count (cell_at t.text.now) 6 t.cells.words.now t.cells.len) in
-    ap some (made _ _ _ _ _ _ _ _ _ _ (c.count.ensures ∙ sym a) (c.count-2.ensures ∙ sym b) (c.count-3.ensures ∙ sym d) (c.count-4.ensures ∙ sym e) (c.count-5.ensures ∙ sym f)) ∙ row_is (store t) c.args.id.0 r (λ l. some (sizes_of l)) c.in-ok-row.ensures.value
+    ap some (made _ _ _ _ _ _ _ _ _ _ (c.count.ensures ∙ sym a) (c.count-2.ensures ∙ sym b) (c.count-3.ensures ∙ sym d) (c.count-4.ensures ∙ sym e) (c.count-5.ensures ∙ sym f)) ∙ row_is (store t) c.args.id.0 r (λ l. some (sizes_of l)) c.in_ok-row.ensures.value

@@ -16,17 +16,17 @@ returns-then-i-self g c = record {
   fits = c.requires.fits;
 }
 
-pub overflow-mul-at : goal.overflow-mul-at
-overflow-mul-at g c = omega (arith, row_end g.row.W c.args.i c.args.self.now.len (omega arith))
+pub overflow_mul-at : goal.overflow_mul-at
+overflow_mul-at g c = omega (arith, row_end g.row.W c.args.i c.args.self.now.len (omega arith))
 
-pub overflow-add-at : goal.overflow-add-at
-overflow-add-at g c = omega (arith, row_end g.row.W c.args.i c.args.self.now.len (omega arith))
+pub overflow_add-at : goal.overflow_add-at
+overflow_add-at g c = omega (arith, row_end g.row.W c.args.i c.args.self.now.len (omega arith))
 
-pub offset-bounds-self-at : goal.offset-bounds-self-at
-offset-bounds-self-at g c = omega (arith, row_end g.row.W c.args.i c.args.self.now.len (omega arith))
+pub offset_bounds-self-at : goal.offset_bounds-self-at
+offset_bounds-self-at g c = omega (arith, row_end g.row.W c.args.i c.args.self.now.len (omega arith))
 
-pub slice-bounds-copy-from-slice-end : goal.slice-bounds-copy-from-slice-end
-slice-bounds-copy-from-slice-end g c = omega (arith, row_end g.row.W c.args.i c.args.self.now.len (omega arith))
+pub slice_bounds-copy_from_slice-end : goal.slice_bounds-copy_from_slice-end
+slice_bounds-copy_from_slice-end g c = omega (arith, row_end g.row.W c.args.i c.args.self.now.len (omega arith))
 
 pub returns : goal.returns
 returns g c =

@@ -8,7 +8,7 @@ some_of : {X : Type 0} (o : Option X) (P : Type 0) (Q : X → Type 0) → true �
 some_of None P Q e h = let z : ◌≡◌ {A = ℕ} 0 1 = cc in absurd (omega arith)
 some_of (Some x) P Q e h = (x, h)
 
-pub returns-then-is-some : goal.returns-then-is-some
-returns-then-is-some c =
-    let k = some_of c.find.result _ _ c.if-is-some.ensures c.find.ensures in
-    name_taken _ _ _ _ c.part.result.now k.0.0 c.in-ok-name.ensures.takes (c.part.ensures ∙ ap (λ t. bytes t c.in-ok-name.name) c.in-ok-name.ensures.text) k.1
+pub returns-then-is_some : goal.returns-then-is_some
+returns-then-is_some c =
+    let k = some_of c.find.result _ _ c.if-is_some.ensures c.find.ensures in
+    name_taken _ _ _ _ c.part.result.now k.0.0 c.in_ok-name.ensures.takes (c.part.ensures ∙ ap (λ t. bytes t c.in_ok-name.name) c.in_ok-name.ensures.text) k.1

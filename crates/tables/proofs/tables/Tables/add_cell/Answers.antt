@@ -15,7 +15,7 @@ returns c =
     let room : 6 * c.args.self.now.cells.len + 6 ≤ length c.args.self.now.cells.words.now = omega arith in
     let rows = taken c.push.result _ _ _ _ _ c.push.ensures.value room c.push.ensures.rows in
     let len = taken c.push.result _ _ _ _ _ c.push.ensures.value room c.push.ensures.len in
-    let e : map (cell_at c.args.self.now.text.now) (rows_in 6 c.push.new.self) ≡ map (cell_at c.args.self.now.text.now) (rows_in 6 c.args.self.now.cells) ++ cell_of (bytes c.args.self.now.text.now) c.args.cell ∷ [] = pushed (cell_at c.args.self.now.text.now) _ _ _ _ rows (c.cell-row-row.ensures c.args.self.now.text.now) in
+    let e : map (cell_at c.args.self.now.text.now) (rows_in 6 c.push.new.self) ≡ map (cell_at c.args.self.now.text.now) (rows_in 6 c.args.self.now.cells) ++ cell_of (bytes c.args.self.now.text.now) c.args.cell ∷ [] = pushed (cell_at c.args.self.now.text.now) _ _ _ _ rows (c.cell_row-row.ensures c.args.self.now.text.now) in
     record {
       text = refl;
       rows = refl;

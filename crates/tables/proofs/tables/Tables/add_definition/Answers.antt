@@ -15,7 +15,7 @@ returns c =
     let room : 6 * c.args.self.now.defs.len + 6 ≤ length c.args.self.now.defs.words.now = omega arith in
     let rows = taken c.push.result _ _ _ _ _ c.push.ensures.value room c.push.ensures.rows in
     let len = taken c.push.result _ _ _ _ _ c.push.ensures.value room c.push.ensures.len in
-    let e : map (definition_at c.args.self.now.text.now) (rows_in 6 c.push.new.self) ≡ map (definition_at c.args.self.now.text.now) (rows_in 6 c.args.self.now.defs) ++ definition_of (bytes c.args.self.now.text.now) c.args.definition ∷ [] = pushed (definition_at c.args.self.now.text.now) _ _ _ _ rows (c.definition-row-row.ensures c.args.self.now.text.now) in
+    let e : map (definition_at c.args.self.now.text.now) (rows_in 6 c.push.new.self) ≡ map (definition_at c.args.self.now.text.now) (rows_in 6 c.args.self.now.defs) ++ definition_of (bytes c.args.self.now.text.now) c.args.definition ∷ [] = pushed (definition_at c.args.self.now.text.now) _ _ _ _ rows (c.definition_row-row.ensures c.args.self.now.text.now) in
     record {
       text = refl;
       rows = refl;

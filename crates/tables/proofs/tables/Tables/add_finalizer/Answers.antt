@@ -14,7 +14,7 @@ returns c =
     let room : 1 * c.args.self.now.finis.len + 1 ≤ length c.args.self.now.finis.words.now = omega arith in
     let rows = taken c.push.result _ _ _ _ _ c.push.ensures.value room c.push.ensures.rows in
     let len = taken c.push.result _ _ _ _ _ c.push.ensures.value room c.push.ensures.len in
-    let e : map number_at (rows_in 1 c.push.new.self) ≡ map number_at (rows_in 1 c.args.self.now.finis) ++ cell_no c.args.cell ∷ [] = pushed number_at _ _ _ _ rows c.number-row-row.ensures in
+    let e : map number_at (rows_in 1 c.push.new.self) ≡ map number_at (rows_in 1 c.args.self.now.finis) ++ cell_no c.args.cell ∷ [] = pushed number_at _ _ _ _ rows c.number_row-row.ensures in
     record {
       text = refl;
       rows = refl;

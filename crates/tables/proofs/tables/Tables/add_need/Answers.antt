@@ -14,7 +14,7 @@ returns c =
     let room : 2 * c.args.self.now.needs.len + 2 ≤ length c.args.self.now.needs.words.now = omega arith in
     let rows = taken c.push.result _ _ _ _ _ c.push.ensures.value room c.push.ensures.rows in
     let len = taken c.push.result _ _ _ _ _ c.push.ensures.value room c.push.ensures.len in
-    let e : map (name_at c.args.self.now.text.now) (rows_in 2 c.push.new.self) ≡ map (name_at c.args.self.now.text.now) (rows_in 2 c.args.self.now.needs) ++ bytes c.args.self.now.text.now c.args.name ∷ [] = pushed (name_at c.args.self.now.text.now) _ _ _ _ rows (c.name-row-row.ensures c.args.self.now.text.now) in
+    let e : map (name_at c.args.self.now.text.now) (rows_in 2 c.push.new.self) ≡ map (name_at c.args.self.now.text.now) (rows_in 2 c.args.self.now.needs) ++ bytes c.args.self.now.text.now c.args.name ∷ [] = pushed (name_at c.args.self.now.text.now) _ _ _ _ rows (c.name_row-row.ensures c.args.self.now.text.now) in
     record {
       text = refl;
       rows = refl;

@@ -19,7 +19,7 @@ pub loop-at-smaller : goal.loop-at-smaller
 loop-at-smaller c = let l = left_some c.in-Some.k _ (ap found c.in-Some.is) in let f = walk_falls _ _ _ _ (c.older-at.ensures.newest _ _ _ c.requires.named.holds (within c) refl) in omega arith
 
 pub loop-at-preserved : goal.loop-at-preserved
-loop-at-preserved c = walk_on _ _ _ _ _ (here c) (sym c.if-is-named.ensures) (c.older-at.ensures.newest _ _ _ c.requires.named.holds (within c) refl)
+loop-at-preserved c = walk_on _ _ _ _ _ (here c) (sym c.if-is_named.ensures) (c.older-at.ensures.newest _ _ _ c.requires.named.holds (within c) refl)
 
 pub returns : goal.returns
-returns c = walk_end _ _ _ _ c.loop-at.invariant (ap found c.in-default.is)
+returns c = walk_end _ _ _ _ c.loop-at.invariant (ap found c.in_default.is)
