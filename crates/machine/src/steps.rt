@@ -1,10 +1,10 @@
 // The arms of a step.
-ghost use Rattle.std.specs.Prelude.{◌≡◌, ◌<◌, length, Some, None};
+ghost use Rattle.std.specs.Prelude.{◌≡◌, ◌<◌, length, MatchOption};
 ghost use Rattle.std.proofs.Math.Option.{some, none};
 ghost use Rattle.base.specs.Lists.{nth};
 ghost use Rattle.processor.specs.Cpu.{Continue, sets, goes, there, stores, calls, computes, through, returns, pushes, pops, shows, reads, asks, word};
 ghost use Rattle.processor.specs.Operations.{acts};
-ghost use Rattle.machine.specs.Arithmetic.{result};
+ghost use Rattle.machine.specs.Arithmetic.{outcome_of};
 ghost use Rattle.machine.specs.Seen.{state_of, room_of, made_of};
 ghost use Rattle.machine.specs.Took.{Took};
 
@@ -19,7 +19,7 @@ const ADDRESSES: u64 = 4294967296;
 impl<'a> Machine<'a> {
     // The word at an address, if there is one.
     pub(crate) fn word(&self, a: u64) -> Option<u64>
-        ensures* { λ v. ⌜ elim v [ None ↦ nth self.now.words.now a ≡ none | Some x ↦ (nth self.now.words.now a ≡ some x) × (a < length self.now.words.now) ] ⌝ }
+        ensures { MatchOption result (nth self.now.words.now a ≡ none) (λ x. (nth self.now.words.now a ≡ some x) × (a < length self.now.words.now)) }
     {
         let i = a as usize;
         if i < self.words.len() {
@@ -31,15 +31,15 @@ impl<'a> Machine<'a> {
 
     // The address k behind the instruction's own.
     fn there(&self, k: u32) -> u64
-        ensures* { λ a. ⌜ a ≡ there (state_of self.now) k ⌝ }
+        ensures { result ≡ there (state_of self.now) k }
     {
         (self.pc % ADDRESSES + k as u64) % ADDRESSES
     }
 
     fn set(&mut self, r: u8, x: u64) -> Event
         requires { self.old.pc < length self.old.words.now }
-        ensures* took { λ e. ⌜ Took self.old (sets (state_of self.old) r x) self.new e ⌝ }
-        ensures* room { λ _. ⌜ room_of self.new ≡ room_of self.old ⌝ }
+        ensures took { Took self.old (sets (state_of self.old) r x) self.new result }
+        ensures room { room_of self.new ≡ room_of self.old }
     {
         self.regs.write(r, x);
         self.pc += 1;
@@ -48,8 +48,8 @@ impl<'a> Machine<'a> {
 
     // Goes on at p.
     pub(crate) fn jump(&mut self, p: u64) -> Event
-        ensures* took { λ e. ⌜ Took self.old (goes (state_of self.old) p) self.new e ⌝ }
-        ensures* room { λ _. ⌜ room_of self.new ≡ room_of self.old ⌝ }
+        ensures took { Took self.old (goes (state_of self.old) p) self.new result }
+        ensures room { room_of self.new ≡ room_of self.old }
     {
         self.pc = p;
         Event::Continue
@@ -57,7 +57,7 @@ impl<'a> Machine<'a> {
 
     fn enter(&mut self, p: u64) -> Event
         requires { (self.old.pc < length self.old.words.now) × (0 < room_of self.old) }
-        ensures* { λ e. ⌜ Took self.old (calls (state_of self.old) p) self.new e ⌝ }
+        ensures { Took self.old (calls (state_of self.old) p) self.new result }
     {
         self.backs.push(self.pc + 1);
         self.pc = p;
@@ -65,7 +65,7 @@ impl<'a> Machine<'a> {
     }
 
     fn leave(&mut self) -> Event
-        ensures* { λ e. ⌜ Took self.old (returns (state_of self.old) (state_of self.old).backs) self.new e ⌝ }
+        ensures { Took self.old (returns (state_of self.old) (state_of self.old).backs) self.new result }
     {
         match self.backs.pop() {
             Some(p) => self.jump(p),
@@ -75,7 +75,7 @@ impl<'a> Machine<'a> {
 
     fn pop(&mut self, r: u8) -> Event
         requires { self.old.pc < length self.old.words.now }
-        ensures* { λ e. ⌜ Took self.old (pops (state_of self.old) r (state_of self.old).pushed) self.new e ⌝ }
+        ensures { Took self.old (pops (state_of self.old) r (state_of self.old).pushed) self.new result }
     {
         match self.pushed.pop() {
             Some(x) => self.set(r, x),
@@ -85,7 +85,7 @@ impl<'a> Machine<'a> {
 
     fn push(&mut self, x: u64) -> Event
         requires { (self.old.pc < length self.old.words.now) × (0 < room_of self.old) }
-        ensures* { λ e. ⌜ Took self.old (pushes (state_of self.old) x) self.new e ⌝ }
+        ensures { Took self.old (pushes (state_of self.old) x) self.new result }
     {
         self.pushed.push(x);
         self.pc += 1;
@@ -94,7 +94,7 @@ impl<'a> Machine<'a> {
 
     fn show(&mut self, x: u64) -> Event
         requires { (self.old.pc < length self.old.words.now) × (0 < room_of self.old) }
-        ensures* { λ e. ⌜ Took self.old (shows (state_of self.old) x) self.new e ⌝ }
+        ensures { Took self.old (shows (state_of self.old) x) self.new result }
     {
         self.log.push(Shown::Number(x));
         self.pc += 1;
@@ -104,7 +104,7 @@ impl<'a> Machine<'a> {
     // Reads the next number.
     fn read(&mut self, r: u8) -> Event
         requires { (self.old.pc < length self.old.words.now) × (0 < room_of self.old) }
-        ensures* { λ e. ⌜ Took self.old (reads (state_of self.old) r) self.new e ⌝ }
+        ensures { Took self.old (reads (state_of self.old) r) self.new result }
     {
         self.log.push(Shown::Read);
         let x = self.ins.next();
@@ -113,7 +113,7 @@ impl<'a> Machine<'a> {
 
     fn load(&mut self, r: u8, a: u64) -> Event
         requires { self.old.pc < length self.old.words.now }
-        ensures* { λ e. ⌜ Took self.old (word (state_of self.old) a (sets (state_of self.old) r)) self.new e ⌝ }
+        ensures { Took self.old (word (state_of self.old) a (sets (state_of self.old) r)) self.new result }
     {
         match self.word(a) {
             Some(x) => self.set(r, x),
@@ -123,7 +123,7 @@ impl<'a> Machine<'a> {
 
     fn store(&mut self, a: u64, x: u64) -> Event
         requires { self.old.pc < length self.old.words.now }
-        ensures* { λ e. ⌜ Took self.old (word (state_of self.old) a (λ old. stores (state_of self.old) a x)) self.new e ⌝ }
+        ensures { Took self.old (word (state_of self.old) a (λ old. stores (state_of self.old) a x)) self.new result }
     {
         if self.word(a).is_none() {
             return Event::Stuck;
@@ -136,7 +136,7 @@ impl<'a> Machine<'a> {
     // Calls what the slot at an address holds.
     fn through(&mut self, a: u64) -> Event
         requires { (self.old.pc < length self.old.words.now) × (0 < room_of self.old) }
-        ensures* { λ e. ⌜ Took self.old (through (state_of self.old) a) self.new e ⌝ }
+        ensures { Took self.old (through (state_of self.old) a) self.new result }
     {
         match self.word(a) {
             Some(0) => Event::Bind(a),
@@ -148,10 +148,10 @@ impl<'a> Machine<'a> {
     // Goes on, and leaves it to others to act.
     fn ask(&mut self, e: Event) -> Event
         requires { self.old.pc < length self.old.words.now }
-        ensures* same { λ r. ⌜ r ≡ e ⌝ }
-        ensures* becomes { λ _. ⌜ state_of self.new ≡ (asks (state_of self.old) Continue).cpu ⌝ }
-        ensures* made { λ _. ⌜ made_of self.new ≡ made_of self.old ⌝ }
-        ensures* room { λ _. ⌜ room_of self.new ≡ room_of self.old ⌝ }
+        ensures same { result ≡ e }
+        ensures becomes { state_of self.new ≡ (asks (state_of self.old) Continue).cpu }
+        ensures made { made_of self.new ≡ made_of self.old }
+        ensures room { room_of self.new ≡ room_of self.old }
     {
         self.pc += 1;
         e
@@ -159,7 +159,7 @@ impl<'a> Machine<'a> {
 
     fn compute(&mut self, op: Computation, r: u8, a: u8, b: u8) -> Event
         requires { self.old.pc < length self.old.words.now }
-        ensures* { λ e. ⌜ Took self.old (computes (state_of self.old) r a b (result op)) self.new e ⌝ }
+        ensures { Took self.old (computes (state_of self.old) r a b (outcome_of op)) self.new result }
     {
         let Some(x) = self.regs.read(a) else {
             return Event::Stuck;
@@ -172,7 +172,7 @@ impl<'a> Machine<'a> {
 
     fn load_behind(&mut self, r: u8, a: u8, k: u32) -> Event
         requires { self.old.pc < length self.old.words.now }
-        ensures* { λ e. ⌜ Took self.old (acts (state_of self.old) (Operation.Load r a k)) self.new e ⌝ }
+        ensures { Took self.old (acts (state_of self.old) (Operation.Load r a k)) self.new result }
     {
         match self.regs.read(a) {
             Some(x) => self.load(r, x.wrapping_add(k as u64)),
@@ -182,7 +182,7 @@ impl<'a> Machine<'a> {
 
     fn store_behind(&mut self, a: u8, k: u32, r: u8) -> Event
         requires { self.old.pc < length self.old.words.now }
-        ensures* { λ e. ⌜ Took self.old (acts (state_of self.old) (Operation.Store a k r)) self.new e ⌝ }
+        ensures { Took self.old (acts (state_of self.old) (Operation.Store a k r)) self.new result }
     {
         let Some(x) = self.regs.read(a) else {
             return Event::Stuck;
@@ -195,7 +195,7 @@ impl<'a> Machine<'a> {
 
     fn branch(&mut self, r: u8, k: u32) -> Event
         requires { self.old.pc < length self.old.words.now }
-        ensures* { λ e. ⌜ Took self.old (acts (state_of self.old) (Operation.JumpIfZero r k)) self.new e ⌝ }
+        ensures { Took self.old (acts (state_of self.old) (Operation.JumpIfZero r k)) self.new result }
     {
         match self.regs.read(r) {
             Some(0) => {
@@ -209,7 +209,7 @@ impl<'a> Machine<'a> {
 
     fn open(&mut self, r: u8, k: u32, global: bool) -> Event
         requires { self.old.pc < length self.old.words.now }
-        ensures* { λ e. ⌜ Took self.old (acts (state_of self.old) (Operation.Open r k global)) self.new e ⌝ }
+        ensures { Took self.old (acts (state_of self.old) (Operation.Open r k global)) self.new result }
     {
         match self.word(self.there(k)) {
             Some(x) => self.ask(Event::Open(x, r, global)),
@@ -219,7 +219,7 @@ impl<'a> Machine<'a> {
 
     fn find(&mut self, r: u8, a: u8, k: u32) -> Event
         requires { self.old.pc < length self.old.words.now }
-        ensures* { λ e. ⌜ Took self.old (acts (state_of self.old) (Operation.Find r a k)) self.new e ⌝ }
+        ensures { Took self.old (acts (state_of self.old) (Operation.Find r a k)) self.new result }
     {
         match self.word(self.there(k)) {
             Some(x) => self.ask(Event::Find(r, a, x)),
@@ -230,7 +230,7 @@ impl<'a> Machine<'a> {
     // What the instruction does at which the machine is.
     pub(crate) fn execute(&mut self, i: Operation) -> Event
         requires { (self.old.pc < length self.old.words.now) × (0 < room_of self.old) }
-        ensures* { λ e. ⌜ Took self.old (acts (state_of self.old) i) self.new e ⌝ }
+        ensures { Took self.old (acts (state_of self.old) i) self.new result }
     {
         match i {
             Operation::Set(r, k) => self.set(r, k as u64),

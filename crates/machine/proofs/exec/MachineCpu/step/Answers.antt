@@ -10,7 +10,7 @@ pub returns-in-Some-decode : goal.returns-in-Some-decode
 returns-in-Some-decode c =
     let m = state_of c.args.self.now in
     let e : step m ≡ act m (Some c.in-Some-decode.i) =
-    steps_to m _ c.in-Some.w c.at_pc.ensures c.if-pc-eq0.false c.in-Some.ensures.0 ∙ ap (act m) (sym c.in-Some-decode.ensures) in
+    steps_to m _ c.in-Some.w c.at-pc.ensures c.if-pc-eq0.false c.in-Some.ensures.0 ∙ ap (act m) (sym c.in-Some-decode.ensures) in
     let t = c.execute.ensures in
     record {
       counts = omega (arith, t.made);
