@@ -17,7 +17,7 @@ const BATCH: usize = 1000;
 
 // Makes so many steps, or stops at the first that doesn't go on.
 fn batch<P: Cpu>(cpu: &mut P) -> Event
-    requires { 1000 ≤ room cpu.old }
+    requires { 1000 ≤ P.room cpu.old }
 {
     for made in 0..BATCH {
         match cpu.step() {
