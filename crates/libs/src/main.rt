@@ -12,7 +12,8 @@ use library::types::LibraryId;
 use listing::list;
 use sources::{Sources, locate};
 use std::io::Write;
-use std::{env, fs};
+use std::process::ExitCode;
+use std::{env, fs, io};
 
 const USAGE: &str = "usage: libs FILE..
 
@@ -88,10 +89,12 @@ fn run(rt: &HostRuntime) -> Result<(), Failure> {
     }
 }
 
-fn main(rt: HostRuntime) -> Result<(), Failure> {
-    let done = run(&rt);
-    if let Err(failure) = &done {
-        eprintln!(rt; "{failure}")?;
+fn main(rt: HostRuntime) -> io::Result<ExitCode> {
+    match run(&rt) {
+        Ok(()) => Ok(ExitCode::SUCCESS),
+        Err(failure) => {
+            eprintln!(rt; "{failure}")?;
+            Ok(ExitCode::FAILURE)
+        }
     }
-    done
 }
