@@ -5,7 +5,7 @@ use Rattle.base.specs.Choices.{opt, on_some, guard, on_ok, IfOk}
 use Rattle.base.specs.Names.{Name, same}
 use Rattle.base.proofs.Choices.{pick_ok, on_ok_if}
 use Rattle.text.specs.Words.{digits, below}
-use Rattle.library.specs.Library.{Instruction, Cell, at}
+use Rattle.library.specs.Library.{Instruction, Cell}
 use Rattle.library.specs.Keywords.{k_all, k_inner, k_must, k_may, k_word, k_ref, k_at, k_slot, k_name, k_inward, k_needs, k_def, k_init, k_fini}
 use Rattle.library.specs.Lines.{Read, number_below, a_register, a_cell, a_number, a_word, either, then, end_line, three_regs, one_reg, ternary, unary_of, operands, opcode_of, instruction_line, cell_line, Item, inward, needs, define, init, fini, cell, item_line}
 use Rattle.library.specs.Text.{cell_reach, item_reach}

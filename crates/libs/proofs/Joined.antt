@@ -1,6 +1,5 @@
 -- A line of files that are read as one text is a line of one of them.
 use Rattle.std.proofs.Common.{◌≡◌, ℕ, suc, ◌+◌, ◌-◌, ◌<◌, ◌≤◌, Bool, true, false, eqb, leb, List, [], ◌∷◌, ◌++◌, length, Some, sym, refl, ap, ◌∙◌, subst, arith}
-use mathlib.Core.Option.{some}
 use Rattle.std.proofs.lemmas.Bool.{leb-true, leb-false}
 use Rattle.base.specs.Choices.{pick, on_some}
 use Rattle.base.specs.Lists.{nth}

@@ -1,5 +1,5 @@
 -- What the tables of what is loaded stand for.
-use Rattle.std.specs.Prelude.{Bool, false, List, [], ◌∷◌, ℕ, zero, suc, ◌-◌, ◌%◌, length, get_or, eqb, ltb}
+use Rattle.std.specs.Prelude.{false, List, [], ◌∷◌, ℕ, zero, suc, ◌-◌, ◌%◌, length, get_or, eqb, ltb}
 use Rattle.std.proofs.Math.Option.{Option, some, none}
 use Rattle.base.specs.Choices.{opt}
 use Rattle.base.specs.Lists.{nth}

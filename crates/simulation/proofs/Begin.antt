@@ -14,8 +14,6 @@ use Rattle.links.proofs.Loading.{load_appends}
 use Rattle.meaning.specs.State as state
 use Rattle.meaning.specs.State.{num, ends, State}
 use Rattle.meaning.specs.Runs as runs
-use Rattle.processor.specs.Cpu.{fresh}
-use Rattle.image.specs.Encode.{apart}
 use Rattle.simulation.specs.Handlers.{nothing_loaded, Begins}
 use Rattle.simulation.specs.Layout.{Layout, addr, Fits, FitsPlace}
 use Rattle.simulation.specs.Relation.{Mem}

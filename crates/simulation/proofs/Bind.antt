@@ -4,7 +4,7 @@ use mathlib.Core.Option.{Option, some, none}
 use Rattle.base.specs.Lists.{nth, put}
 use Rattle.base.proofs.Choices.{some_is, opt_some}
 use Rattle.base.proofs.Lists.{nth_lt, put_same, put_other}
-use Rattle.library.specs.Library.{Symbol, Call, at, slot, Library}
+use Rattle.library.specs.Library.{Symbol, Call, slot, Library}
 use Rattle.links.specs.Links.{Place, Module, Room}
 use Rattle.links.specs.Scope.{live_at, scope, resolve}
 use Rattle.links.specs.Load.{bound_to}

@@ -10,7 +10,6 @@ use Rattle.links.specs.Links.{Module, cells_in}
 use Rattle.links.specs.Scope.{live_at}
 use Rattle.links.specs.Laws.{Rising}
 use Rattle.links.proofs.Keys.{live_inv, live_from}
-use Rattle.image.specs.Encode.{apart}
 use Rattle.simulation.specs.Layout.{Layout, base_of, size_of, Placed, Ground}
 use Rattle.simulation.proofs.Wider.{Wider}
 

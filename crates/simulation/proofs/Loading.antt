@@ -16,7 +16,6 @@ use Rattle.links.specs.Laws.{Rising, Comes, Loads}
 use Rattle.links.proofs.Keys.{live_inv, live_from}
 use Rattle.meaning.specs.State.{Value, Held, link, place_of, first_held, first_helds, new_cells}
 use Rattle.processor.specs.Cpu
-use Rattle.image.specs.Encode.{apart}
 use Rattle.image.specs.Words.{first_word}
 use Rattle.simulation.specs.Layout.{Layout, base_of, size_of, Ground, addr, addr_place, Fits}
 use Rattle.simulation.specs.Relation.{Holds, Kept, Mem}

@@ -6,7 +6,7 @@ use Rattle.base.specs.Choices.{pick, opt}
 use Rattle.base.specs.Lists.{nth, put}
 use Rattle.base.proofs.Choices.{some_is, opt_some}
 use Rattle.base.proofs.Lists.{length-put, nth_lt, put_same, put_other}
-use Rattle.library.specs.Library.{Symbol, Sto, Call, at, slot, Library}
+use Rattle.library.specs.Library.{Symbol, Sto, Call, slot, Library}
 use Rattle.library.specs.Fine.{Fine}
 use Rattle.links.specs.Links.{place_at, Module, Links, Room}
 use Rattle.links.specs.Scope.{live_at}
@@ -17,7 +17,7 @@ use Rattle.meaning.specs.Values as values
 use Rattle.meaning.specs.Steps as steps
 use Rattle.processor.specs.Cpu.{Processor, Did, did}
 use Rattle.processor.specs.Cpu
-use Rattle.image.specs.Encode.{fields, apart}
+use Rattle.image.specs.Encode.{fields}
 use Rattle.simulation.proofs.Plain.{on_reg_any, Good, held_inv, next_at, own_there, calls_good}
 use Rattle.simulation.specs.Layout.{Layout, base_of, size_of, addr, Fits}
 use Rattle.simulation.specs.Relation.{Holds, Kept, Mem, Rel}

@@ -6,7 +6,7 @@ use Rattle.base.specs.Choices.{pick, opt, over}
 use Rattle.base.specs.Lists.{nth, put, Each}
 use Rattle.base.proofs.Choices.{on_some_inv}
 use Rattle.base.proofs.Lists.{nth-map, map-put, each_nth, each_put}
-use Rattle.library.specs.Library.{Set, Get, Own, Move, Jump, If0, Callr, Ret, Push, Pop, Out, In, at, Library}
+use Rattle.library.specs.Library.{Set, Get, Own, Move, Jump, If0, Callr, Ret, Push, Pop, Out, In, Library}
 use Rattle.library.specs.Fine.{Fine}
 use Rattle.links.specs.Links.{Place, place_at, Module, Room}
 use Rattle.links.specs.Scope.{live_at}

@@ -5,7 +5,7 @@ use Rattle.std.proofs.lemmas.Bool.{ne_eqb}
 use Rattle.base.specs.Choices.{pick}
 use Rattle.base.specs.Lists.{nth, Each}
 use Rattle.base.proofs.Lists.{nth_lt}
-use Rattle.library.specs.Library.{Instruction, Set, Get, Sto, Own, Add, Sub, Mul, Less, Same, Move, Jump, If0, Call, Callr, Ret, Push, Pop, Out, In, Open, Find, Close, End, at, Library}
+use Rattle.library.specs.Library.{Instruction, Set, Get, Sto, Own, Add, Sub, Mul, Less, Same, Move, Jump, If0, Call, Callr, Ret, Push, Pop, Out, In, Open, Find, Close, End, Library}
 use Rattle.library.specs.Fine.{Fine, InCells}
 use Rattle.links.specs.Links.{Room}
 use Rattle.meaning.specs.State as state

@@ -6,13 +6,12 @@ use Rattle.base.specs.Choices.{opt}
 use Rattle.base.specs.Lists.{nth, put}
 use Rattle.base.proofs.Choices.{some_is}
 use Rattle.base.proofs.Lists.{length-put, nth_lt, put_same, put_other}
-use Rattle.library.specs.Library.{at, Library}
+use Rattle.library.specs.Library.{Library}
 use Rattle.links.specs.Links.{Module, Links, with_modules}
 use Rattle.links.specs.Scope.{live_at}
 use Rattle.links.specs.Close.{unloaded, unload_all}
 use Rattle.links.proofs.Keys.{live_inv, live_from}
 use Rattle.meaning.specs.State.{Held}
-use Rattle.image.specs.Encode.{apart}
 use Rattle.simulation.specs.Layout.{Layout, Ground}
 use Rattle.simulation.specs.Relation.{Kept, Mem}
 

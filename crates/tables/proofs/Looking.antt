@@ -1,5 +1,5 @@
 -- A library's row, and what stands in the tables of its parts.
-use Rattle.std.proofs.Common.{◌≡◌, ℕ, ◌-◌, List, length, sym, ap, ◌∙◌}
+use Rattle.std.proofs.Common.{◌≡◌, ℕ, List, length, sym, ap, ◌∙◌}
 use mathlib.Core.Option.{Option, some, none}
 use Rattle.std.proofs.lemmas.List.{length-map}
 use Rattle.base.specs.Choices.{on_some, over}
