@@ -2,7 +2,7 @@
 use Rattle.std.proofs.Common.{◌≡◌, ℕ, suc, ◌+◌, ◌/◌, ◌<◌, ◌≤◌, List, [], ◌∷◌, map, length, Option, sym, refl, ap, ◌∙◌, subst, arith}
 use mathlib.Core.Option.{none}
 use Rattle.std.specs.declared.option.Option.TheVariants as opt
-use Rattle.std.specs.List.{AllByRecursion as All}
+use Rattle.std.specs.List.{AllByRecursion}
 use Rattle.std.proofs.lemmas.Slice.{between_to_end}
 use Rattle.base.specs.Choices.{on_ok}
 use Rattle.base.specs.Names.{Name}
@@ -40,7 +40,7 @@ pub no_libraries : (t : Tables) → t.libs.len ≡ 0 → libraries t ≡ []
 no_libraries t e = ap (map (library_at (store t))) (no_rows t e)
 
 pub sound_none : (t : Tables) → t.libs.len ≡ 0 → Sound (store t)
-sound_none t e = let P : List (List ℕ) → Type 0 = All (Inside (store t)) in subst P (sym (no_rows t e)) tt
+sound_none t e = let P : List (List ℕ) → Type 0 = AllByRecursion (Inside (store t)) in subst P (sym (no_rows t e)) tt
 
 pub named_none : (p : Parts) → p.tables.libs.len ≡ 0 → ((bs : List ℕ) → Holds p.names bs 0) → Named p.tables p.names
 named_none p e h = record { holds = (let P : ℕ → Type 0 = λ m. Holds p.names (buckets (length p.names.heads.now) (libraries p.tables)) m in subst P (sym e) (h _)); within = omega arith }

@@ -1,6 +1,6 @@
 -- Libraries stay what they are while rows are added.
 use Rattle.std.proofs.Common.{◌≡◌, ℕ, ◌≤◌, List, [], ◌∷◌, ◌++◌, map, length, get_or, drop, sym, refl, ap, ◌∙◌, subst, arith}
-use Rattle.std.specs.List.{between, AllByRecursion as All}
+use Rattle.std.specs.List.{between, AllByRecursion}
 use Rattle.std.proofs.lemmas.List.{length-append, drop-append-le, take-append-le, map_push}
 use Rattle.std.proofs.lemmas.Slice.{between_is}
 use Rattle.std.proofs.ByRecursion.{All-push}
@@ -39,11 +39,11 @@ inside_kept s u r x h = record {
   cells = longer _ s.cells u.cells x.cells.0 x.cells.1 h.cells;
 }
 
-pub rows_kept : (s u : Store) (rs : List (List ℕ)) → Ext s u → All (Inside s) rs → map (library_at u) rs ≡ map (library_at s) rs
+pub rows_kept : (s u : Store) (rs : List (List ℕ)) → Ext s u → AllByRecursion (Inside s) rs → map (library_at u) rs ≡ map (library_at s) rs
 rows_kept s u [] x h = refl
 rows_kept s u (r ∷ rs) x h = let a = library_kept s u r x h.0 in let b = rows_kept s u rs x h.1 in rw (a, b) refl
 
-pub inside_all : (s u : Store) (rs : List (List ℕ)) → Ext s u → All (Inside s) rs → All (Inside u) rs
+pub inside_all : (s u : Store) (rs : List (List ℕ)) → Ext s u → AllByRecursion (Inside s) rs → AllByRecursion (Inside u) rs
 inside_all s u [] x h = tt
 inside_all s u (r ∷ rs) x h = (inside_kept s u r x h.0, inside_all s u rs x h.1)
 
@@ -51,14 +51,14 @@ pub done_kept : (s u : Store) → Ext s u → u.libs ≡ s.libs → Sound s → 
 done_kept s u x e h = ap (map (library_at u)) e ∙ rows_kept s u s.libs x h
 
 pub sound_kept : (s u : Store) → Ext s u → u.libs ≡ s.libs → Sound s → Sound u
-sound_kept s u x e h = let P : List (List ℕ) → Type 0 = All (Inside u) in subst P (sym e) (inside_all s u s.libs x h)
+sound_kept s u x e h = let P : List (List ℕ) → Type 0 = AllByRecursion (Inside u) in subst P (sym e) (inside_all s u s.libs x h)
 
 -- a library's row added
 pub done_push : (s u : Store) (r : List ℕ) (l : Library) → Ext s u → u.libs ≡ s.libs ++ r ∷ [] → library_at u r ≡ l → Sound s → done u ≡ done s ++ l ∷ []
 done_push s u r l x e f h = ap (map (library_at u)) e ∙ map_push (library_at u) s.libs r ∙ (let a = rows_kept s u s.libs x h in rw (a, f) refl)
 
 pub sound_push : (s u : Store) (r : List ℕ) → Ext s u → u.libs ≡ s.libs ++ r ∷ [] → Inside u r → Sound s → Sound u
-sound_push s u r x e i h = let P : List (List ℕ) → Type 0 = All (Inside u) in subst P (sym e) (All-push (Inside u) s.libs r (inside_all s u s.libs x h) i)
+sound_push s u r x e i h = let P : List (List ℕ) → Type 0 = AllByRecursion (Inside u) in subst P (sym e) (All-push (Inside u) s.libs r (inside_all s u s.libs x h) i)
 
 -- an item more in the library that is being read
 pub need_law : (s u : Store) (x : Name) → u.text ≡ s.text → u.needs ≡ s.needs ++ x ∷ [] → u.defs ≡ s.defs → u.inits ≡ s.inits → u.finis ≡ s.finis → u.cells ≡ s.cells → (o : Draft) → Starts s o → library_from u o ≡ apply (library_from s o) (needs x)

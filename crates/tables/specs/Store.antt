@@ -3,7 +3,7 @@ use Rattle.std.specs.Prelude.{◌≡◌, ℕ, ◌+◌, ◌*◌, ◌≤◌, true,
 use Rattle.std.proofs.Math.Option.{some, none}
 use Rattle.std.proofs.Math.Option as core
 use Rattle.std.specs.declared.option.Option.TheVariants as opt
-use Rattle.std.specs.List.{between, AllByRecursion as All}
+use Rattle.std.specs.List.{between, AllByRecursion}
 use Rattle.base.specs.Choices as choices
 use Rattle.base.specs.Lists.{nth}
 use Rattle.base.specs.Names.{Name, same}
@@ -70,7 +70,7 @@ pub record Inside (s : Store) (r : List ℕ) : Type 0 where
 
 -- all parts of libraries are there
 abbrev pub Sound : Store → Type 0
-Sound s = All (Inside s) s.libs
+Sound s = AllByRecursion (Inside s) s.libs
 
 -- the parts of the library that is being read begin in the tables
 pub record Starts (s : Store) (o : Draft) : Type 0 where
