@@ -4,9 +4,9 @@
 ghost use Rattle.std.specs.Prelude.{◌≡◌};
 ghost use Rattle.base.specs.Choices.{found};
 ghost use Rattle.base.specs.Names.{Name};
-ghost use Rattle.library.specs.Views.{«cell_no», «instruction_of», «cell_of»};
+ghost use Rattle.library.specs.Views.{cell_no, instruction_of, cell_of};
 ghost use Rattle.image.specs.Encode.{encode, pack, apart, Decodes};
-ghost use Rattle.image.specs.Words.{«first_word»};
+ghost use Rattle.image.specs.Words.{first_word};
 
 use library::types::{Cell, CellNo, Instruction};
 
@@ -34,14 +34,14 @@ fn packed(o: u8, r: u8, a: u8, b: u8, k: u32) -> u64
 
 // How far it is from the cell me to another, modulo 2^32.
 fn distance(to: CellNo, me: CellNo) -> u32
-    ensures { result ≡ apart («cell_no» to) («cell_no» me) }
+    ensures { result ≡ apart (cell_no to) (cell_no me) }
 {
     ((to.0 as u64 + 4294967296 - me.0 as u64) % 4294967296) as u32
 }
 
 // The word of an instruction at its own cell. Cells are named by how far they are, so it is the same at any address.
 pub fn word_of(instruction: Instruction, me: CellNo) -> u64
-    ensures { result ≡ encode («instruction_of» instruction) («cell_no» me) }
+    ensures { result ≡ encode (instruction_of instruction) (cell_no me) }
 {
     match instruction {
         Instruction::Set(a, n) => packed(1, a.number(), 0, 0, n),
@@ -80,7 +80,7 @@ pub fn word_of(instruction: Instruction, me: CellNo) -> u64
 
 // The word that a cell begins with.
 pub fn cell_word<N: Drop>(cell: Cell<N>, site: Site) -> u64
-    ensures { (f : N → Name) → result ≡ «first_word» (found site.definition) site.base site.counted («cell_no» site.cell) («cell_of» f cell) }
+    ensures { (f : N → Name) → result ≡ first_word (found site.definition) site.base site.counted (cell_no site.cell) (cell_of f cell) }
 {
     match cell {
         Cell::Number(n) => n as u64,

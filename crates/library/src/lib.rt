@@ -1,7 +1,7 @@
 // What a library is, as types; the text that libraries are written in; what can be wrong with it.
 #![tactic(auto)]
 
-ghost use Rattle.library.specs.Fine.{«ReadsFine»};
+ghost use Rattle.library.specs.Fine.{ReadsFine};
 
 pub mod faults;
 pub mod registers;
@@ -9,7 +9,7 @@ pub mod types;
 
 // Registers, numbers and cells of the libraries that a text gives are in range.
 pub fn reads_fine() -> u8
-    ensures { «ReadsFine» }
+    ensures { ReadsFine }
 {
     0
 }

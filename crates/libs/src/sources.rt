@@ -1,6 +1,6 @@
 ghost use Rattle.std.specs.Prelude.{◌≡◌, ◌+◌, ◌^◌, ◌<◌, [], ◌∷◌, ◌++◌, length, OnOk};
 ghost use Rattle.text.specs.Words.{lines_of};
-ghost use Rattle.libs.specs.Places.{place, «SameLine»};
+ghost use Rattle.libs.specs.Places.{place, SameLine};
 
 use std::alloc::{AllocError, Global};
 
@@ -71,7 +71,7 @@ pub fn locate(counts: &[usize], line: usize) -> Option<Place>
 
 // A line of the whole text is the line that stands at its place.
 pub fn same_line() -> u8
-    ensures { «SameLine» }
+    ensures { SameLine }
 {
     0
 }

@@ -1,5 +1,5 @@
 -- What the tables of what is loaded stand for.
-use Rattle.std.specs.Prelude.{false, List, [], ◌∷◌, ℕ, zero, suc, ◌-◌, ◌%◌, length, get_or, eqb, ltb}
+use Rattle.std.specs.Prelude.{false, List, [], ◌∷◌, ℕ, zero, suc, ◌-◌, ◌%◌, length, ◌==◌, nat_lt, slice_index}
 use Rattle.std.proofs.Math.Option.{Option, some, none}
 use Rattle.base.specs.Choices.{opt}
 use Rattle.base.specs.Lists.{nth}
@@ -26,15 +26,15 @@ library_at ls k = opt (nth ls k) no_library (λ l. l)
 
 -- the library of module i
 abbrev pub library_in : Tables → ℕ → ℕ
-library_in t i = get_or t.modules.library.now i 0
+library_in t i = slice_index t.modules.library.now i
 
 -- module i, as a row says it
 abbrev pub module_row : Tables → ℕ → Module
-module_row t i = record { library = record { 0 = library_in t i }; live = eqb (get_or t.loaded.now (library_in t i) 0) (suc i); group = get_or t.modules.group.now i 0; base = get_or t.modules.base.now i 0 }
+module_row t i = record { library = record { 0 = library_in t i }; live = (slice_index t.loaded.now (library_in t i) == suc i); group = slice_index t.modules.group.now i; base = slice_index t.modules.base.now i }
 
 -- group i, as a row says it
 abbrev pub group_row : Tables → ℕ → Group
-group_row t i = record { first = get_or t.groups.first.now i 0; end = get_or t.groups.end.now i 0; opened = eqb (get_or t.groups.state.now i 0 % 2) 1; global = ltb 1 (get_or t.groups.state.now i 0) }
+group_row t i = record { first = slice_index t.groups.first.now i; end = slice_index t.groups.end.now i; opened = (slice_index t.groups.state.now i % 2 == 1); global = nat_lt 1 (slice_index t.groups.state.now i) }
 
 -- what a cell is bound to, by the two words of its binding
 abbrev pub bound_by : ℕ → ℕ → Option Place
@@ -43,11 +43,11 @@ bound_by (suc i) k = some (place_at i k)
 
 -- what the cell at word a is bound to
 abbrev pub binding_at : Tables → ℕ → Option Place
-binding_at t a = bound_by (get_or t.bindings.module.now a 0) (get_or t.bindings.cell.now a 0)
+binding_at t a = bound_by (slice_index t.bindings.module.now a) (slice_index t.bindings.cell.now a)
 
 -- the member in row i
 abbrev pub member_at : Tables → ℕ → ℕ
-member_at t i = get_or t.members.now i 0
+member_at t i = slice_index t.members.now i
 
 -- module i
 abbrev pub module_of : List Library → Tables → ℕ → links.Module
@@ -59,4 +59,4 @@ group_of t i = record { members = listed (member_at t) (group_row t i).first ((g
 
 -- the links that the tables stand for
 abbrev pub links_of : List Library → Tables → Counts → Links
-links_of ls t c = record { modules = listed (module_of ls t) 0 c.modules; groups = listed (group_of t) 0 c.groups; order = listed (λ i. get_or t.order.now i 0) 0 c.order; used = c.used }
+links_of ls t c = record { modules = listed (module_of ls t) 0 c.modules; groups = listed (group_of t) 0 c.groups; order = listed (λ i. slice_index t.order.now i) 0 c.order; used = c.used }

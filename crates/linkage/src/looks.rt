@@ -1,7 +1,7 @@
-ghost use Rattle.std.specs.Prelude.{◌≡◌, ltb, get_or};
+ghost use Rattle.std.specs.Prelude.{◌≡◌, nat_lt, slice_index};
 ghost use Rattle.std.proofs.Math.Option.{some};
 ghost use Rattle.base.specs.Choices.{found, guard};
-ghost use Rattle.linkage.specs.Tables.{«module_row», «group_row»};
+ghost use Rattle.linkage.specs.Tables.{module_row, group_row};
 
 use crate::tables::{Counts, Tables};
 use crate::types::{Group, Module};
@@ -9,14 +9,14 @@ use library::types::LibraryId;
 
 // Word i, or 0 where there is none.
 pub fn word(words: &[u64], i: usize) -> u64
-    ensures { result ≡ get_or words.now i 0 }
+    ensures { result ≡ slice_index words.now i }
 {
     words.get(i).copied().unwrap_or(0)
 }
 
 // Module i.
 pub fn module_at(tables: &Tables, counts: &Counts, i: usize) -> Option<Module>
-    ensures { found result ≡ guard (ltb i counts.now.modules) (some («module_row» tables.now i)) }
+    ensures { found result ≡ guard (nat_lt i counts.now.modules) (some (module_row tables.now i)) }
 {
     if i >= counts.modules {
         return None;
@@ -32,7 +32,7 @@ pub fn module_at(tables: &Tables, counts: &Counts, i: usize) -> Option<Module>
 
 // Group i.
 pub fn group_at(tables: &Tables, counts: &Counts, i: usize) -> Option<Group>
-    ensures { found result ≡ guard (ltb i counts.now.groups) (some («group_row» tables.now i)) }
+    ensures { found result ≡ guard (nat_lt i counts.now.groups) (some (group_row tables.now i)) }
 {
     if i >= counts.groups {
         return None;

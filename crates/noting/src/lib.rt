@@ -2,7 +2,7 @@
 #![tactic(auto)]
 
 ghost use Rattle.std.specs.Prelude.{◌≡◌, ◌+◌, ◌<◌, ◌≤◌, min, true, [], length};
-ghost use Rattle.processor.specs.Cpu.{step, poked, called, gone, «with_reg»};
+ghost use Rattle.processor.specs.Cpu.{step, poked, called, gone, with_reg};
 ghost use Rattle.processor.specs.Told.{Tells};
 ghost use Rattle.noting.specs.Kept.{kept, Noted};
 
@@ -87,7 +87,7 @@ impl<P: Cpu> Cpu for Noting<P> {
         requires { r < 8 }
         ensures counts { P.Cpu.made self.new.inner ≡ P.Cpu.made self.old.inner }
         ensures roomy { P.Cpu.room self.old.inner ≤ P.Cpu.room self.new.inner }
-        ensures becomes { P.Cpu.state self.new.inner ≡ «with_reg» (P.Cpu.state self.old.inner) r x }
+        ensures becomes { P.Cpu.state self.new.inner ≡ with_reg (P.Cpu.state self.old.inner) r x }
         ensures notes { kept self.new.notes ≡ kept self.old.notes }
     {
         self.inner.set_reg(r, x);

@@ -1,16 +1,16 @@
 // Theorems of the processor.
-ghost use Rattle.processor.specs.Laws.{Decodes, Lies, «KeepsSize», «ShowsMore»};
+ghost use Rattle.processor.specs.Laws.{Decodes, Lies, KeepsSize, ShowsMore};
 
 // What was shown stays shown.
 pub fn shows_more() -> u8
-    ensures { «ShowsMore» }
+    ensures { ShowsMore }
 {
     0
 }
 
 // A step changes no memory's size.
 pub fn keeps_size() -> u8
-    ensures { «KeepsSize» }
+    ensures { KeepsSize }
 {
     0
 }

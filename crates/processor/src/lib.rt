@@ -2,7 +2,7 @@
 #![tactic(auto)]
 
 ghost use Rattle.std.specs.Prelude.{◌≡◌, ℕ, ◌+◌, ◌<◌, ◌≤◌, min, length, slice_index};
-ghost use Rattle.processor.specs.Cpu.{Processor, step, poked, called, gone, «with_reg»};
+ghost use Rattle.processor.specs.Cpu.{Processor, step, poked, called, gone, with_reg};
 ghost use Rattle.processor.specs.Told.{Tells};
 
 mod laws;
@@ -64,7 +64,7 @@ pub trait Cpu {
         requires { r < 8 }
         ensures counts { made self.new ≡ made self.old }
         ensures roomy { room self.old ≤ room self.new }
-        ensures becomes { state self.new ≡ «with_reg» (state self.old) r x };
+        ensures becomes { state self.new ≡ with_reg (state self.old) r x };
 
     // Goes on at p, and will return to b, or, where b is 0, home.
     fn call(&mut self, p: u64, b: u64)
