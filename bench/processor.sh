@@ -1,15 +1,16 @@
 #!/usr/bin/env bash
 # Times the proved machine against a plain C switch interpreter of the same words, on two loops, and prints the ratios.
-# Each pair of runs is made right after the other, and the best of several counts. Run `rt check processor_bench` first.
+# Each pair of runs is made right after the other, and the best of several counts.
 set -euo pipefail
 cd "$(dirname "$0")/.."
 
 tries=${1:-7}
 arithmetic=${2:-30000000}
 calls=${3:-20000000}
-ours=target/bin/processor_bench
+ours=crates/processor_bench/out/processor_bench
 theirs=target/bench/processor_c
 
+(cd crates/processor_bench && rt run -- 1 1 > /dev/null)
 mkdir -p target/bench
 gcc -O2 -Wall -Wextra -o "$theirs" bench/processor.c
 

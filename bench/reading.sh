@@ -4,13 +4,13 @@
 set -eu
 cd "$(dirname "$0")/.."
 [ $# -gt 0 ] || set -- 1000000 10000000 100000000
-rt check reading_bench > /dev/null
+(cd crates/reading_bench && rt run -- 1000 > /dev/null)
 plain=$(mktemp -d)
 trap 'rm -rf "$plain"' EXIT
 gcc -O2 -o "$plain/reading" bench/reading.c
 date -u '+%Y-%m-%d %H:%M UTC'
 grep -m1 'model name' /proc/cpuinfo
 for size in "$@"; do
-    echo "catalog: $(target/bin/reading_bench "$size")"
+    echo "catalog: $(crates/reading_bench/out/reading_bench "$size")"
     echo "plain C: $("$plain/reading" "$size")"
 done

@@ -3,8 +3,9 @@
 
 usage: python3 tools/respell.py        at the top of the repository, once, after the toolchain's own porting script
 
-A dash stays only in a lemma that is named by two functions of lists, as in 'nth-put'. Goals' answers keep the names that Rattle gives them, and
-functions of src/ and strings keep theirs. It refuses to go on where two names of one file would fall together.
+A dash stays only in a lemma that is named by two functions of lists, as in 'nth-put'. Goals' answers keep the names that Rattle gives them,
+functions of src/ and strings keep theirs. A name that would fall together with a word of the library gets another. It refuses to go on
+where two names of one file would fall together. Run again, it changes nothing.
 """
 
 import os
@@ -13,7 +14,23 @@ import sys
 
 WORD = re.compile(r"(?<![\w'-])[A-Za-z][\w'-]*")
 DECLARED = re.compile(r"^\s*(?:abbrev\s+|unfoldable\s+)?(?:pub\s+)?(?:data\s+|record\s+)?([A-Za-z][\w'-]*)\s*:(?!=)\s*(.*)$")
-OF_LISTS = {"nth", "put", "length", "map", "take", "drop", "append", "set", "keep", "among", "has", "getD"}
+# a type with parameters, which may go on in further lines
+WITH_PARAMETERS = re.compile(r"^\s*(?:pub\s+)?(?:data|record)\s+([A-Za-z][\w'-]*)\s*[({]()")
+OF_LISTS = {"nth", "put", "length", "map", "take", "drop", "append", "set", "keep", "among", "has", "get_or"}
+# names with no rule: lists' getD is get_or now, If-some and If-ok would be words of the library with other arguments, the rest are local
+GIVEN = {
+    "getD-nth": "get_or-nth",
+    "nth-getD": "nth-get_or",
+    "If-some": "WhereSome",
+    "If-ok": "WhereOk",
+    "Goes-on": "GoesOn",
+    "Goes_on": "GoesOn",
+    "cell-item": "cell_item",
+    "at-o": "at_o",
+    "b-inward": "b_inward",
+    "z-in": "z_in",
+    "zero-th": "zero_th",
+}
 
 
 def files():
@@ -29,7 +46,7 @@ def declared(path, text):
     if not path.endswith(".antt"):
         return
     for line in text.splitlines():
-        found = DECLARED.match(line)
+        found = DECLARED.match(line) or WITH_PARAMETERS.match(line)
         if not found or line.lstrip().startswith("--"):
             continue
         answers = os.path.basename(path) in ("Answers.antt", "Invariants.antt")
@@ -43,6 +60,12 @@ def respelled(name):
     if name[0].isupper():
         return "".join(p[:1].upper() + p[1:] for p in parts)
     return ("-" if OF_LISTS.issuperset(parts) else "_").join(parts)
+
+
+def own_is_some(path, text):
+    """The base crate's is_some is has_value: the library has a word is_some, over its own Option."""
+    own = path.startswith(os.path.join("crates", "base", "")) or re.search(r"use Rattle\.base\.specs\.Choices\.\{[^}]*\bis_some\b", text)
+    return re.sub(r"(?<![\w'.-])is_some(?![\w'-])", "has_value", text) if own and path.endswith(".antt") else text
 
 
 def outside_strings(path, text, turn):
@@ -60,7 +83,7 @@ def main():
     for path, text in texts.items():
         for name in declared(path, text):
             names.setdefault(name, set()).add(path)
-    turned = {n: respelled(n) for n in names if "-" in n}
+    turned = {n: respelled(n) for n in names if "-" in n} | GIVEN
     for old, new in sorted(turned.items()):
         if new != old and new in names:
             together = names[old] & names[new]
@@ -68,11 +91,11 @@ def main():
             if together:
                 return 1
     for path, text in texts.items():
-        new = outside_strings(path, text, lambda t: WORD.sub(lambda m: turned.get(m[0], m[0]), t))
+        new = own_is_some(path, outside_strings(path, text, lambda t: WORD.sub(lambda m: turned.get(m[0], m[0]), t)))
         if new != text:
             with open(path, "w", encoding="utf-8") as f:
                 f.write(new)
-    print(f"{sum(a != b for a, b in turned.items())} names respelled")
+    print(f"{sum(a != b for a, b in turned.items() if a in names)} names respelled")
     return 0
 
 
