@@ -1,11 +1,11 @@
 #!/usr/bin/env python3
 """Brings the repository's own definitions and lemmas to the spelling of today's Rattle: types in camel case, all else in snake case.
 
-usage: python3 tools/respell.py        at the top of the repository, once, after the toolchain's own porting script
+usage: python3 tools/respell.py        at the top of the repository, after the toolchain's own porting script
 
-A dash stays only in a lemma that is named by two functions of lists, as in 'nth-put'. Goals' answers keep the names that Rattle gives them,
-functions of src/ and strings keep theirs. A name that would fall together with a word of the library gets another. It refuses to go on
-where two names of one file would fall together. Run again, it changes nothing.
+A dash stays only in a lemma that is named by two functions of lists, as in 'nth-put', and quotes only round reserved words. Answers keep
+the names that Rattle gives their goals, functions of src/ and strings keep theirs. A name that would fall together with a word of the
+library gets another. It refuses to go on where two names of one file would fall together. Run again, it changes nothing.
 """
 
 import os
@@ -16,6 +16,8 @@ WORD = re.compile(r"(?<![\w'-])[A-Za-z][\w'-]*")
 DECLARED = re.compile(r"^\s*(?:abbrev\s+|unfoldable\s+)?(?:pub\s+)?(?:data\s+|record\s+)?([A-Za-z][\w'-]*)\s*:(?!=)\s*(.*)$")
 # a type with parameters, which may go on in further lines
 WITH_PARAMETERS = re.compile(r"^\s*(?:pub\s+)?(?:data|record)\s+([A-Za-z][\w'-]*)\s*[({]()")
+QUOTED = re.compile(r"«([A-Za-z]\w*)»")
+RESERVED = set("data record deriving module where use mod pub package open as unfoldable abbrev axiom unfold unfolding ruleset mutual infix infixl infixr elim let in do".split())
 OF_LISTS = {"nth", "put", "length", "map", "take", "drop", "append", "set", "keep", "among", "has", "get_or"}
 # names with no rule: lists' getD is get_or now, If-some and If-ok would be words of the library with other arguments, the rest are local
 GIVEN = {
@@ -62,6 +64,10 @@ def respelled(name):
     return ("-" if OF_LISTS.issuperset(parts) else "_").join(parts)
 
 
+def unquoted(text):
+    return QUOTED.sub(lambda m: m[0] if m[1] in RESERVED else m[1], text)
+
+
 def own_is_some(path, text):
     """The base crate's is_some is has_value: the library has a word is_some, over its own Option."""
     own = path.startswith(os.path.join("crates", "base", "")) or re.search(r"use Rattle\.base\.specs\.Choices\.\{[^}]*\bis_some\b", text)
@@ -85,13 +91,13 @@ def main():
             names.setdefault(name, set()).add(path)
     turned = {n: respelled(n) for n in names if "-" in n} | GIVEN
     for old, new in sorted(turned.items()):
-        if new != old and new in names:
+        if old in names and new != old and new in names:
             together = names[old] & names[new]
             print(f"look: {old} and {new} are now one name, in {', '.join(sorted(together)) or 'different files'}")
             if together:
                 return 1
     for path, text in texts.items():
-        new = own_is_some(path, outside_strings(path, text, lambda t: WORD.sub(lambda m: turned.get(m[0], m[0]), t)))
+        new = own_is_some(path, outside_strings(path, text, lambda t: unquoted(WORD.sub(lambda m: turned.get(m[0], m[0]), t))))
         if new != text:
             with open(path, "w", encoding="utf-8") as f:
                 f.write(new)

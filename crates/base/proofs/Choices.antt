@@ -1,7 +1,7 @@
 -- Choices: one combinator per way of choosing.
 use Rattle.std.proofs.Common.{◌≡◌, ℕ, Bool, true, false, Ok, Err, Result, refl, ap, arith}
 use mathlib.Core.Option.{Option, some, none}
-use Rattle.base.specs.Choices.{pick, opt, on_some, guard, IfSome, on_ok, ok_part, IfOk}
+use Rattle.base.specs.Choices.{pick, opt, on_some, guard, WhereSome, on_ok, ok_part, WhereOk}
 
 pub some_is : {A : Type 0} {a b : A} → some a ≡ some b → a ≡ b
 some_is e = cc
@@ -31,24 +31,24 @@ pub none_not_some : {A : Type 0} {a : A} → none ≡ some a → ⊥
 none_not_some e = let z : ◌≡◌ {A = ℕ} 0 1 = cc in omega arith
 
 -- a statement of the value, one choice after the other
-pub pick_if : {A : Type 0} (P : A → Type 0) (b : Bool) (o p : Option A) → IfSome P o → IfSome P p → IfSome P (pick b o p)
+pub pick_if : {A : Type 0} (P : A → Type 0) (b : Bool) (o p : Option A) → WhereSome P o → WhereSome P p → WhereSome P (pick b o p)
 pick_if P true o p x y = x
 pick_if P false o p x y = y
 
-pub some_if : {A C : Type 0} (P : C → Type 0) (o : Option A) (f : A → Option C) → ((a : A) → o ≡ some a → IfSome P (f a)) → IfSome P (on_some o f)
+pub some_if : {A C : Type 0} (P : C → Type 0) (o : Option A) (f : A → Option C) → ((a : A) → o ≡ some a → WhereSome P (f a)) → WhereSome P (on_some o f)
 some_if P none f h = tt
 some_if P (some a) f h = h a refl
 
-pub guard_if : {A : Type 0} (P : A → Type 0) (b : Bool) (o : Option A) → (b ≡ true → IfSome P o) → IfSome P (guard b o)
+pub guard_if : {A : Type 0} (P : A → Type 0) (b : Bool) (o : Option A) → (b ≡ true → WhereSome P o) → WhereSome P (guard b o)
 guard_if P true o h = h refl
 guard_if P false o h = tt
 
 -- the same for results
-pub pick_ok : {A E : Type 0} (P : A → Type 0) (b : Bool) (r q : Result A E) → IfOk P r → IfOk P q → IfOk P (pick b r q)
+pub pick_ok : {A E : Type 0} (P : A → Type 0) (b : Bool) (r q : Result A E) → WhereOk P r → WhereOk P q → WhereOk P (pick b r q)
 pick_ok P true r q x y = x
 pick_ok P false r q x y = y
 
-pub on_ok_if : {A C E : Type 0} (P : C → Type 0) (r : Result A E) (f : A → Result C E) → ((a : A) → r ≡ Ok a → IfOk P (f a)) → IfOk P (on_ok r f)
+pub on_ok_if : {A C E : Type 0} (P : C → Type 0) (r : Result A E) (f : A → Result C E) → ((a : A) → r ≡ Ok a → WhereOk P (f a)) → WhereOk P (on_ok r f)
 on_ok_if P (Ok a) f h = h a refl
 on_ok_if P (Err e) f h = tt
 

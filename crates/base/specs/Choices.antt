@@ -23,9 +23,9 @@ guard true o = o
 guard false o = none
 
 -- whether there is a value
-abbrev pub is_some : {A : Type 0} → Option A → Bool
-is_some none = false
-is_some (some x) = true
+abbrev pub has_value : {A : Type 0} → Option A → Bool
+has_value none = false
+has_value (some x) = true
 
 -- f over the value
 abbrev pub over : {A B : Type 0} → (A → B) → Option A → Option B
@@ -33,9 +33,9 @@ over f none = none
 over f (some x) = some (f x)
 
 -- what holds of the value, where there is one
-abbrev pub IfSome : {A : Type 0} → (A → Type 0) → Option A → Type 0
-IfSome P none = Unit
-IfSome P (some x) = P x
+abbrev pub WhereSome : {A : Type 0} → (A → Type 0) → Option A → Type 0
+WhereSome P none = Unit
+WhereSome P (some x) = P x
 
 -- the next result, where this one is good
 abbrev pub on_ok : {A C E : Type 0} → Result A E → (A → Result C E) → Result C E
@@ -48,9 +48,9 @@ ok_part (Ok x) = some x
 ok_part (Err e) = none
 
 -- what holds of the value, where the result is good
-abbrev pub IfOk : {A E : Type 0} → (A → Type 0) → Result A E → Type 0
-IfOk P (Ok x) = P x
-IfOk P (Err e) = Unit
+abbrev pub WhereOk : {A E : Type 0} → (A → Type 0) → Result A E → Type 0
+WhereOk P (Ok x) = P x
+WhereOk P (Err e) = Unit
 
 -- an Option of the code as one of the definitions
 abbrev pub found : {A : Type 0} → OptionCode A → Option A

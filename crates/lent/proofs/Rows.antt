@@ -2,7 +2,7 @@
 use borrow.Rule.Slice.PartMut.{put_mid}
 use Rattle.std.proofs.Common.{◌≡◌, ℕ, zero, suc, ◌+◌, ◌-◌, ◌*◌, ◌<◌, ◌≤◌, min, ◌≢◌, List, [], ◌∷◌, ◌++◌, length, get_or, take, drop, set, sym, refl, ap, ◌∙◌, ⊎_elim, mul-le-mul_left, mul-one, mul-add, arith}
 use mathlib.Core.Option.{some, none}
-use Rattle.base.proofs.Lists.{put-set, getD-nth}
+use Rattle.base.proofs.Lists.{put-set, get_or-nth}
 use Rattle.base.specs.Lists.{nth, put}
 use Rattle.lent.specs.Tables.{row_at, rows_of}
 use Rattle.std.proofs.lemmas.List.FromFn.{length-map-range_with_len, get_or-map-range_with_len, take-map-range_with_len, map-range_with_len_more, fill_by_all}
@@ -29,7 +29,7 @@ unfolding rows_of
 rows_get w ws n i h = get_or-map-range_with_len (row_at w ws) 0 n i i [] h (omega arith)
 
 pub rows_nth : (w : ℕ) (ws : List ℕ) (n i : ℕ) → i < n → nth (rows_of w ws n) i ≡ some (row_at w ws i)
-rows_nth w ws n i h = let l = rows_len w ws n in getD-nth (rows_of w ws n) i [] (omega arith) ∙ ap some (rows_get w ws n i h)
+rows_nth w ws n i h = let l = rows_len w ws n in get_or-nth (rows_of w ws n) i [] (omega arith) ∙ ap some (rows_get w ws n i h)
 
 pub rows_past : (w : ℕ) (ws : List ℕ) (n i : ℕ) → n ≤ i → nth (rows_of w ws n) i ≡ none
 rows_past w ws n i h = let l = rows_len w ws n in past (rows_of w ws n) i (omega arith)

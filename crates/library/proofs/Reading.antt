@@ -1,7 +1,7 @@
 -- Registers, numbers and cells of the libraries that a text gives are in range.
 use Rattle.std.proofs.Common.{◌≡◌, ℕ, suc, ◌<◌, ◌≤◌, Bool, true, false, eqb, ltb, leb, List, [], ◌∷◌, ◌++◌, map, length, Ok, Err, refl, subst, arith}
 use mathlib.Core.Option.{Option, some, none}
-use Rattle.base.specs.Choices.{pick, opt, on_ok, IfSome, IfOk}
+use Rattle.base.specs.Choices.{pick, opt, on_ok, WhereSome, WhereOk}
 use Rattle.base.specs.Lists.{Each}
 use Rattle.base.specs.Names.{Name, same}
 use Rattle.base.proofs.Choices.{pick_ok, on_ok_if, ok_part_inv}
@@ -11,7 +11,7 @@ use Rattle.library.specs.Library.{Cell, number, ref, at, slot, named, instructio
 use Rattle.library.specs.Keywords.{k_lib}
 use Rattle.library.specs.Lines.{Read, Item, inward, needs, define, init, fini, cell, item_line}
 use Rattle.library.specs.Text.{item_reach, apply, bad, Draft, Progress, at_line_number, with_library, drafted, checked, finished, sized, library_item, lib_words, lib_line, line, lines, nothing_read, read, reads}
-use Rattle.library.specs.Fine.{CellFine, Library-fine}
+use Rattle.library.specs.Fine.{CellFine, LibraryFine}
 use Rattle.library.specs.declared.faults.LineFault.TheVariants.{OutsideLibrary, TooManyCells, NoSuchCell}
 use Rattle.library.proofs.Operands.{ItemFine, ItemOwn, item_line_fine}
 use Rattle.std.proofs.lemmas.Bool.{ltb-true, ltb-false, leb-true}
@@ -55,7 +55,7 @@ abbrev Named : Draft → Type 0
 Named d = Under d.top d.library
 
 -- and that has not too many
-record Draft-fine (d : Draft) : Type 0 where
+record DraftFine (d : Draft) : Type 0 where
   pub under : Named d
   pub small : length d.library.cells < 65536
 
@@ -66,60 +66,60 @@ named_drafted n d i u p = go (ltb d.top (item_reach i)) refl
     go true e = under_apply (item_reach i) d.library i (under_more d.top (item_reach i) d.library (omega (arith, ltb-true d.top (item_reach i) e)) u) p
     go false e = under_apply d.top d.library i u (item_more (item_reach i) d.top (omega (arith, ltb-false d.top (item_reach i) e)) i p)
 
-record Progress-fine (p : Progress) : Type 0 where
-  pub done : Each Library-fine p.done
-  pub draft : IfSome Draft-fine p.draft
+record ProgressFine (p : Progress) : Type 0 where
+  pub done : Each LibraryFine p.done
+  pub draft : WhereSome DraftFine p.draft
 
-checked_fine : (d : Draft) → Draft-fine d → IfOk Library-fine (checked d)
+checked_fine : (d : Draft) → DraftFine d → WhereOk LibraryFine (checked d)
 checked_fine d f = go (leb d.top (length d.library.cells)) refl
   where
-    go : (b : Bool) → leb d.top (length d.library.cells) ≡ b → IfOk Library-fine (pick b (Ok d.library) (Err (bad d.top_line NoSuchCell)))
+    go : (b : Bool) → leb d.top (length d.library.cells) ≡ b → WhereOk LibraryFine (pick b (Ok d.library) (Err (bad d.top_line NoSuchCell)))
     go true e = let u = under_more d.top (length d.library.cells) d.library (leb-true _ _ e) f.under in record { cells = u.cells; small = f.small; defs = u.defs; inits = u.inits; finis = u.finis }
     go false e = tt
 
-finished_fine : (p : Progress) → Progress-fine p → IfOk (Each Library-fine) (finished p)
+finished_fine : (p : Progress) → ProgressFine p → WhereOk (Each LibraryFine) (finished p)
 finished_fine p f = go p.draft f.draft
   where
-    go : (o : Option Draft) → IfSome Draft-fine o → IfOk (Each Library-fine) (opt o (Ok p.done) (λ d. on_ok (checked d) (λ l. Ok (p.done ++ (l ∷ [])))))
+    go : (o : Option Draft) → WhereSome DraftFine o → WhereOk (Each LibraryFine) (opt o (Ok p.done) (λ d. on_ok (checked d) (λ l. Ok (p.done ++ (l ∷ [])))))
     go none g = f.done
-    go (some d) g = on_ok_if (Each Library-fine) (checked d) _ (λ l e. each_push Library-fine p.done l f.done (subst (IfOk Library-fine) e (checked_fine d g)))
+    go (some d) g = on_ok_if (Each LibraryFine) (checked d) _ (λ l e. each_push LibraryFine p.done l f.done (subst (WhereOk LibraryFine) e (checked_fine d g)))
 
-sized_fine : (n : ℕ) (d : Draft) → Named d → IfOk Draft-fine (sized n d)
+sized_fine : (n : ℕ) (d : Draft) → Named d → WhereOk DraftFine (sized n d)
 sized_fine n d u = go (leb (length d.library.cells) 65535) refl
   where
-    go : (b : Bool) → leb (length d.library.cells) 65535 ≡ b → IfOk Draft-fine (pick b (Ok d) (Err (bad n TooManyCells)))
+    go : (b : Bool) → leb (length d.library.cells) 65535 ≡ b → WhereOk DraftFine (pick b (Ok d) (Err (bad n TooManyCells)))
     go true e = record { under = u; small = omega (arith, leb-true (length d.library.cells) 65535 e) }
     go false e = tt
 
-numbered : {A : Type 0} (P : A → Type 0) (n : ℕ) (r : Read A) → IfOk P r → IfOk P (at_line_number n r)
+numbered : {A : Type 0} (P : A → Type 0) (n : ℕ) (r : Read A) → WhereOk P r → WhereOk P (at_line_number n r)
 numbered P n (Ok a) h = h
 numbered P n (Err e) h = tt
 
-item_fine : (n : ℕ) (p : Progress) (d : Draft) (w : Name) (ws : List Name) → Progress-fine p → Draft-fine d → IfOk Progress-fine (library_item n p d w ws)
+item_fine : (n : ℕ) (p : Progress) (d : Draft) (w : Name) (ws : List Name) → ProgressFine p → DraftFine d → WhereOk ProgressFine (library_item n p d w ws)
 item_fine n p d w ws f g =
-    on_ok_if Progress-fine (at_line_number n (item_line w ws)) _
-    (λ i e. on_ok_if Progress-fine (sized n (drafted n d i)) _
-    (λ q r. record { done = f.done; draft = subst (IfOk Draft-fine) r (sized_fine n (drafted n d i) (named_drafted n d i g.under (subst (IfOk ItemOwn) e (numbered ItemOwn n (item_line w ws) (item_line_fine w ws))))) }))
+    on_ok_if ProgressFine (at_line_number n (item_line w ws)) _
+    (λ i e. on_ok_if ProgressFine (sized n (drafted n d i)) _
+    (λ q r. record { done = f.done; draft = subst (WhereOk DraftFine) r (sized_fine n (drafted n d i) (named_drafted n d i g.under (subst (WhereOk ItemOwn) e (numbered ItemOwn n (item_line w ws) (item_line_fine w ws))))) }))
 
-lib_fine : (n : ℕ) (p : Progress) (ws : List Name) → Progress-fine p → IfOk Progress-fine (lib_line n p ws)
+lib_fine : (n : ℕ) (p : Progress) (ws : List Name) → ProgressFine p → WhereOk ProgressFine (lib_line n p ws)
 lib_fine n p ws f =
-    on_ok_if Progress-fine (finished p) _
-    (λ ls e. on_ok_if Progress-fine (at_line_number n (lib_words ls ws)) _
-    (λ x q. record { done = subst (IfOk (Each Library-fine)) e (finished_fine p f); draft = record { under = record { cells = tt; defs = tt; inits = tt; finis = tt }; small = omega arith } }))
+    on_ok_if ProgressFine (finished p) _
+    (λ ls e. on_ok_if ProgressFine (at_line_number n (lib_words ls ws)) _
+    (λ x q. record { done = subst (WhereOk (Each LibraryFine)) e (finished_fine p f); draft = record { under = record { cells = tt; defs = tt; inits = tt; finis = tt }; small = omega arith } }))
 
-line_fine : (n : ℕ) (p : Progress) (ws : List Name) → Progress-fine p → IfOk Progress-fine (line n p ws)
+line_fine : (n : ℕ) (p : Progress) (ws : List Name) → ProgressFine p → WhereOk ProgressFine (line n p ws)
 line_fine n p [] f = f
 line_fine n p ([] ∷ ws) f = f
-line_fine n p ((c ∷ cs) ∷ ws) f = pick_ok Progress-fine (eqb c 35) _ _ f (pick_ok Progress-fine (same (c ∷ cs) k_lib) _ _ (lib_fine n p ws f) (go p.draft f.draft))
+line_fine n p ((c ∷ cs) ∷ ws) f = pick_ok ProgressFine (eqb c 35) _ _ f (pick_ok ProgressFine (same (c ∷ cs) k_lib) _ _ (lib_fine n p ws f) (go p.draft f.draft))
   where
-    go : (o : Option Draft) → IfSome Draft-fine o → IfOk Progress-fine (opt o (Err (bad n OutsideLibrary)) (λ d. library_item n p d (c ∷ cs) ws))
+    go : (o : Option Draft) → WhereSome DraftFine o → WhereOk ProgressFine (opt o (Err (bad n OutsideLibrary)) (λ d. library_item n p d (c ∷ cs) ws))
     go none g = tt
     go (some d) g = item_fine n p d (c ∷ cs) ws f g
 
-lines_fine : (n : ℕ) (p : Progress) (xs : List (List Name)) → Progress-fine p → IfOk (Each Library-fine) (lines n p xs)
+lines_fine : (n : ℕ) (p : Progress) (xs : List (List Name)) → ProgressFine p → WhereOk (Each LibraryFine) (lines n p xs)
 lines_fine n p [] f = finished_fine p f
-lines_fine n p (ws ∷ xs) f = on_ok_if (Each Library-fine) (line n p ws) _ (λ q e. lines_fine (suc n) q xs (subst (IfOk Progress-fine) e (line_fine n p ws f)))
+lines_fine n p (ws ∷ xs) f = on_ok_if (Each LibraryFine) (line n p ws) _ (λ q e. lines_fine (suc n) q xs (subst (WhereOk ProgressFine) e (line_fine n p ws f)))
 
-pub reads_fine : (t : List ℕ) (ls : List Library) → reads t ≡ some ls → Each Library-fine ls
+pub reads_fine : (t : List ℕ) (ls : List Library) → reads t ≡ some ls → Each LibraryFine ls
 unfolding read
-reads_fine t ls e = subst (IfOk (Each Library-fine)) (ok_part_inv (read t) ls e) (lines_fine 1 nothing_read (map words_of (lines_of t)) (record { done = tt; draft = tt }))
+reads_fine t ls e = subst (WhereOk (Each LibraryFine)) (ok_part_inv (read t) ls e) (lines_fine 1 nothing_read (map words_of (lines_of t)) (record { done = tt; draft = tt }))

@@ -45,7 +45,7 @@ CellFine z (named x) = Unit
 CellFine z (instruction o) = Fine o × InCells o z
 
 -- the cells, numbers and registers of a library
-pub record Library-fine (l : Library) : Type 0 where
+pub record LibraryFine (l : Library) : Type 0 where
   pub cells : Each (CellFine (length l.cells)) l.cells
   pub small : length l.cells < 65536
   pub defs : Each (λ d. d.cell < length l.cells) l.defs
@@ -54,4 +54,4 @@ pub record Library-fine (l : Library) : Type 0 where
 
 -- all that a text gives is in range
 abbrev pub ReadsFine : Type 0
-ReadsFine = (t : List ℕ) (ls : List Library) → reads t ≡ some ls → Each Library-fine ls
+ReadsFine = (t : List ℕ) (ls : List Library) → reads t ≡ some ls → Each LibraryFine ls

@@ -1,7 +1,7 @@
 -- A text of libraries, and the libraries that it has.
 use Rattle.std.specs.Prelude.{ℕ, suc, true, false, List, [], ◌∷◌, ◌++◌, map, length, Ok, Err, Result, ◌==◌, nat_le, nat_lt}
 use Rattle.std.proofs.Math.Option.{Option, some, none}
-use Rattle.base.specs.Choices.{pick, opt, is_some, on_ok, ok_part}
+use Rattle.base.specs.Choices.{pick, opt, has_value, on_ok, ok_part}
 use Rattle.base.specs.Names.{Name, same}
 use Rattle.text.specs.Words.{lines_of, words_of}
 use Rattle.library.specs.Library.{Instruction, Set, Get, Sto, Own, Add, Sub, Mul, Less, Same, Move, Jump, If0, Call, Callr, Ret, Push, Pop, Out, In, Open, Find, Close, End, Cell, number, ref, at, slot, named, instruction, Library, find_library}
@@ -122,7 +122,7 @@ library_item n p d w ws = on_ok (at_line_number n (item_line w ws)) (λ i. on_ok
 
 -- the words behind `lib`: a name that none of the libraries has
 abbrev pub lib_words : List Library → List Name → Read Name
-lib_words ls ws = then a_word ws (λ x us. pick (is_some (find_library ls x)) (Err DuplicateLibrary) (end_line x us))
+lib_words ls ws = then a_word ws (λ x us. pick (has_value (find_library ls x)) (Err DuplicateLibrary) (end_line x us))
 
 -- line n begins a library
 abbrev pub lib_line : ℕ → Progress → List Name → Result Progress BadLine

@@ -26,9 +26,9 @@ unfolding Stands
 first t ts f n h =
     let here = nth_is (lines_of t) n h in
     let both = ap (λ ls. nth ls n) (cut_join [] t (joined ts)) ∙ nth_left (lines_of t) (lines_of (joined ts)) n here.0 here.1 ∙ sym here.1 in
-    let zero-th : f - f ≡ 0 = omega arith in
+    let zero_th : f - f ≡ 0 = omega arith in
     let line : suc n - 1 ≡ n = omega arith in
-    (omega arith, both ∙ sym (ap (λ k. on_some (nth (t ∷ ts) k) (λ u. nth (lines_of u) (suc n - 1))) zero-th ∙ ap (λ k. nth (lines_of t) k) line))
+    (omega arith, both ∙ sym (ap (λ k. on_some (nth (t ∷ ts) k) (λ u. nth (lines_of u) (suc n - 1))) zero_th ∙ ap (λ k. nth (lines_of t) k) line))
 
 -- in a later file
 later : (t : Name) (ts : List Name) (f n : ℕ) (p : Place) → length (lines_of t) ≤ n → Stands ts (f + 1) (n - length (lines_of t)) p → Stands (t ∷ ts) f n p

@@ -1,6 +1,6 @@
 -- A set grown by a loop tells what leaves.
 use Rattle.std.proofs.Common.{◌≡◌, ℕ, zero, suc, Bool, true, false, not, ◌&&◌, eqb, ◌⊎◌, List, [], ◌∷◌, ◌++◌, length, sym, refl, ap, subst, inl, inr, ⊎_elim, arith}
-use Rattle.base.specs.Choices.{pick, opt, is_some}
+use Rattle.base.specs.Choices.{pick, opt, has_value}
 use Rattle.base.specs.Lists.{has, keep, Within}
 use Rattle.base.proofs.Sets.{has_here, has_there}
 use Rattle.links.specs.Links.{Module}
@@ -55,7 +55,7 @@ keep_same f g [] h = refl
 keep_same f g (x ∷ xs) h = λ i. pick (h x i) (x ∷ keep_same f g xs h i) (keep_same f g xs h i)
 
 pub leaving_by_set : LeavingBySet
-leaving_by_set k s r = keep_same _ _ k.order (λ j. ap (λ b. is_some (live_at k.modules j) && not b) (same_bool (has j kept) (has j s) (retained_least (length k.modules) k.modules (joins (open_members k.groups) []) s first r.closed j) (r.only j)))
+leaving_by_set k s r = keep_same _ _ k.order (λ j. ap (λ b. has_value (live_at k.modules j) && not b) (same_bool (has j kept) (has j s) (retained_least (length k.modules) k.modules (joins (open_members k.groups) []) s first r.closed j) (r.only j)))
   where
     kept : List ℕ
     kept = retained (length k.modules) k.modules (joins (open_members k.groups) [])

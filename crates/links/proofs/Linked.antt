@@ -101,7 +101,7 @@ init_below ms new (x ∷ xs) = go (find_loaded ms 0 x) refl (init_below ms new x
         test false = h
 
 -- a group while it is brought in
-record Group-in (n : ℕ) (b : Brought) : Type 0 where
+record GroupIn (n : ℕ) (b : Brought) : Type 0 where
   longer : n ≤ length b.modules
   bounds : Bounds (length b.modules) b.modules
   members : Below (length b.modules) b.members
@@ -110,21 +110,21 @@ bounds_wider : (n m : ℕ) (ms : List Module) → n ≤ m → Bounds n ms → Bo
 bounds_wider n m ms h b = each_like (Bindings n) (Bindings m) ms (λ x q. record { sized = q.sized; below = below_wider n m (hosts x.bound) h q.below }) b
 
 module _ (ls : List Library) (m : Room) (g n : ℕ) where
-  one_in : (b c : Brought) (x : Name) → Group-in n b → bring_one ls m g b x ≡ some c → Group-in n c
+  one_in : (b c : Brought) (x : Name) → GroupIn n b → bring_one ls m g b x ≡ some c → GroupIn n c
   one_in b c x r e = go (find_loaded b.modules 0 x) refl e
     where
-      kept : (d : Brought) → fits m d ≡ some c → Group-in n d → Group-in n c
-      kept d q f = let t = guard_inv (leb d.used m.words) d c q in subst (Group-in n) t.1 f
+      kept : (d : Brought) → fits m d ≡ some c → GroupIn n d → GroupIn n c
+      kept d q f = let t = guard_inv (leb d.used m.words) d c q in subst (GroupIn n) t.1 f
 
       more : (l : Library) → length b.modules < length (b.modules ++ (unbound g l ∷ []))
       more l = omega (arith, length_push b.modules (unbound g l))
 
-      go : (o : Option ℕ) → find_loaded b.modules 0 x ≡ o → opt o (on_some (find_library ls x) (λ l. fits m (added m g b l))) (λ j. fits m (joined b j)) ≡ some c → Group-in n c
+      go : (o : Option ℕ) → find_loaded b.modules 0 x ≡ o → opt o (on_some (find_library ls x) (λ l. fits m (added m g b l))) (λ j. fits m (joined b j)) ≡ some c → GroupIn n c
       go none p q = let t = on_some_inv (find_library ls x) (λ l. fits m (added m g b l)) c q in kept (added m g b t.0) t.2 (record { longer = omega (arith, r.longer, more t.0); bounds = each_push (Bindings (length (added m g b t.0).modules)) b.modules _ (bounds_wider (length b.modules) _ b.modules (omega (arith, more t.0)) r.bounds) (record { sized = length-map t.0.cells (λ c. none); below = nones_below (length (added m g b t.0).modules) t.0.cells }); members = each_push (λ j. j < length (added m g b t.0).modules) b.members _ (below_wider (length b.modules) _ b.members (omega (arith, more t.0)) r.members) (more t.0) })
       go (some j) p q = kept (joined b j) q (record { longer = r.longer; bounds = r.bounds; members = each_push (λ j. j < length b.modules) b.members j r.members (omega (arith, loaded_below b.modules 0 x j p)) })
 
-  all_in : (xs : List Name) (b c : Brought) → Group-in n b → bring_all ls m g xs b ≡ some c → Group-in n c
-  all_in [] b c r e = subst (Group-in n) (some_is e) r
+  all_in : (xs : List Name) (b c : Brought) → GroupIn n b → bring_all ls m g xs b ≡ some c → GroupIn n c
+  all_in [] b c r e = subst (GroupIn n) (some_is e) r
   all_in (x ∷ xs) b c r e = let t = on_some_inv (bring_one ls m g b x) (λ d. bring_all ls m g xs d) c e in all_in xs t.0 c (one_in b t.0 x r t.1) t.2
 
 load_linked : (ls : List Library) (m : Room) (x : Name) (global : Bool) (k : Links) (l : Loaded) → Linked k → load ls m x global k ≡ some l → Linked l.links
@@ -133,7 +133,7 @@ load_linked ls m x global k l h e = subst (λ q. Linked q.links) (sym p.is) (rec
     p : Parts ls m x global k l
     p = load_parts ls m x global k l e
 
-    b : Group-in (length k.modules) p.brought
+    b : GroupIn (length k.modules) p.brought
     b = all_in ls m (length k.groups) (length k.modules) p.names (nothing_yet k) p.brought (record { longer = omega arith; bounds = h.bound; members = tt }) p.brings
 
     t : Links

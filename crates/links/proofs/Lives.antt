@@ -1,7 +1,7 @@
 -- Live modules: of other lists with the same keys, of lists grown, bound or unloaded.
 use Rattle.std.proofs.Common.{◌≡◌, ℕ, zero, suc, ◌+◌, Bool, true, false, ◌&&◌, eqb, ◌⊎◌, List, [], ◌∷◌, ◌++◌, map, length, sym, refl, ap, ◌∙◌, inl, inr, ⊎_elim, arith}
 use mathlib.Core.Option.{Option, some, none}
-use Rattle.base.specs.Choices.{pick, opt, on_some, guard, is_some}
+use Rattle.base.specs.Choices.{pick, opt, on_some, guard, has_value}
 use Rattle.base.specs.Lists.{nth, put, has}
 use Rattle.base.specs.Names.{Name, same}
 use Rattle.base.proofs.Choices.{some_is, none_not_some}
@@ -20,12 +20,12 @@ use Rattle.std.proofs.lemmas.Bool.{cases_eq, and_parts, ne_eqb, or_from, or_part
 pub live_is : (ms : List Module) (i : ℕ) → Live ms i → (x : Module) × (live_at ms i ≡ some x)
 live_is ms i e = go (live_at ms i) e
   where
-    go : (o : Option Module) → is_some o ≡ true → (x : Module) × (o ≡ some x)
+    go : (o : Option Module) → has_value o ≡ true → (x : Module) × (o ≡ some x)
     go none e = let z : ◌≡◌ {A = ℕ} 0 1 = cc in absurd (omega arith)
     go (some x) e = (x, refl)
 
 pub is_live : (ms : List Module) (i : ℕ) (x : Module) → live_at ms i ≡ some x → Live ms i
-is_live ms i x e = ap is_some e
+is_live ms i x e = ap has_value e
 
 -- in a list with the same keys
 pub live_keys : (ms ns : List Module) → map key ms ≡ map key ns → (i : ℕ) (x : Module) → live_at ms i ≡ some x → (y : Module) × (live_at ns i ≡ some y) × (key y ≡ key x)

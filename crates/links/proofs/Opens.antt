@@ -1,7 +1,7 @@
 -- What the group has that a load opens.
 use Rattle.std.proofs.Common.{◌≡◌, ℕ, suc, true, not, ◌&&◌, ◌||◌, eqb, leb, List, [], ◌∷◌, ◌++◌, map, length, sym, refl, ap, ◌∙◌, subst, ⊎_elim, append_assoc, append-nil, arith}
 use mathlib.Core.Option.{Option, some, none}
-use Rattle.base.specs.Choices.{pick, opt, on_some, over, is_some}
+use Rattle.base.specs.Choices.{pick, opt, on_some, over, has_value}
 use Rattle.base.specs.Lists.{nth, all_of, has}
 use Rattle.base.specs.Names.{Name, same}
 use Rattle.base.proofs.Choices.{some_is, on_some_inv, guard_inv}
@@ -64,7 +64,7 @@ module _ (ls : List Library) (m : Room) (g : ℕ) where
 met_stable : (k q : Links) → ((me : ℕ) (s : Symbol) → resolve q me s ≡ resolve k me s) → (i : ℕ) (cs : List Cell) → all_of (ref_met q i) cs ≡ all_of (ref_met k i) cs
 met_stable k q h i [] = refl
 met_stable k q h i (number n ∷ cs) = met_stable k q h i cs
-met_stable k q h i (ref s n must ∷ cs) = λ t. (not must || is_some (h i s t)) && met_stable k q h i cs t
+met_stable k q h i (ref s n must ∷ cs) = λ t. (not must || has_value (h i s t)) && met_stable k q h i cs t
 met_stable k q h i (at n ∷ cs) = met_stable k q h i cs
 met_stable k q h i (slot s ∷ cs) = met_stable k q h i cs
 met_stable k q h i (named x ∷ cs) = met_stable k q h i cs

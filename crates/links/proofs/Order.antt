@@ -8,7 +8,7 @@ use Rattle.base.proofs.Names.{same_self, once_append}
 use Rattle.library.specs.Library.{Library, find_library}
 use Rattle.links.specs.Closure.{Task, enter, leave, enters, depth, all_needs, init_order}
 use Rattle.links.specs.Laws.{Found}
-use Rattle.links.specs.Reach.{Needs, Reaches, itself, further, Closed-from, before, In-order, OrderRight}
+use Rattle.links.specs.Reach.{Needs, Reaches, itself, further, ClosedFrom, before, InOrder, OrderRight}
 use Rattle.links.proofs.Among.{among_here, among_first, among_there, among_cases, among_none, among_left, among_right, among_split, among_not, NamesIn}
 use Rattle.links.proofs.Reach.{all_reached, closure_reaches}
 use Rattle.links.proofs.Cost.{weight, weigh, weigh_all, weigh_le}
@@ -175,12 +175,12 @@ module _ (ls : List Library) (x : Name) where
   found_at [] f z e = among_none z e
   found_at (y ∷ ys) f z e = ⊎_elim (λ p. rw p f.0) (found_at ys f.1 z) (among_cases z y ys e)
 
-  walked : (ys : List Name) → Closed-from ls x ys → (n : ℕ) (ts : List Task) (seen done : List Name) → Walks ls x ts seen done → length ts + ahead ls seen ys ≤ n → (last : List Name) × Walks ls x [] last (depth n ls ts seen done)
+  walked : (ys : List Name) → ClosedFrom ls x ys → (n : ℕ) (ts : List Task) (seen done : List Name) → Walks ls x ts seen done → length ts + ahead ls seen ys ≤ n → (last : List Name) × Walks ls x [] last (depth n ls ts seen done)
   walked ys c zero [] seen done r h = (seen, r)
   walked ys c zero (t ∷ ts) seen done r h = absurd (omega arith)
   walked ys c (suc n) [] seen done r h = (seen, r)
   walked ys c (suc n) (leave y ∷ ts) seen done r h = walked ys c n ts seen (done ++ (y ∷ [])) (left y ts seen done r) (omega arith)
-  walked ys c (suc n) (enter z ∷ ts) seen done r h = ⊎_elim (λ e. subst (λ d. (last : List Name) × Walks ls x [] last d) (sym (depth_seen n z ts seen done e)) (walked ys c n ts seen done (skipped z ts seen done r e) (omega arith))) (λ e. let z-in = c.each z r.nested.0 in let f = found_at ys c.found z z-in in subst (λ d. (last : List Name) × Walks ls x [] last d) (sym (depth_entered n z f.0 ts seen done e f.1)) (walked ys c n (enters f.0.needs ++ (leave z ∷ ts)) (z ∷ seen) done (entering z f.0 ts seen done r e f.1) (omega (arith, h, ahead_drop z f.0 seen ys f.1 e z-in, length-append (enters f.0.needs) (leave z ∷ ts), length_enters f.0.needs)))) (cases_Bool (among z seen))
+  walked ys c (suc n) (enter z ∷ ts) seen done r h = ⊎_elim (λ e. subst (λ d. (last : List Name) × Walks ls x [] last d) (sym (depth_seen n z ts seen done e)) (walked ys c n ts seen done (skipped z ts seen done r e) (omega arith))) (λ e. let z_in = c.each z r.nested.0 in let f = found_at ys c.found z z_in in subst (λ d. (last : List Name) × Walks ls x [] last d) (sym (depth_entered n z f.0 ts seen done e f.1)) (walked ys c n (enters f.0.needs ++ (leave z ∷ ts)) (z ∷ seen) done (entering z f.0 ts seen done r e f.1) (omega (arith, h, ahead_drop z f.0 seen ys f.1 e z_in, length-append (enters f.0.needs) (leave z ∷ ts), length_enters f.0.needs)))) (cases_Bool (among z seen))
 
   -- the root, entered
   begun : (l : Library) → find_library ls x ≡ some l → Walks ls x (enters l.needs ++ (leave x ∷ [])) (x ∷ []) []
@@ -203,9 +203,9 @@ same_test false true f g = g refl
 same_test false false f g = refl
 
 pub order_right : OrderRight
-order_right ls x ys e = subst (In-order ls ys) (sym first) (record { once = w.1.done_once; same = λ y. same_test (among y order) (among y ys) (λ h. c.each y (w.1.reached y h)) (λ h. in_order y (all_reached ls x w.0 w.1.root closed y (c.only y h))); needs_first = w.1.needs_first })
+order_right ls x ys e = subst (InOrder ls ys) (sym first) (record { once = w.1.done_once; same = λ y. same_test (among y order) (among y ys) (λ h. c.each y (w.1.reached y h)) (λ h. in_order y (all_reached ls x w.0 w.1.root closed y (c.only y h))); needs_first = w.1.needs_first })
   where
-    c : Closed-from ls x ys
+    c : ClosedFrom ls x ys
     c = closure_reaches.has ls x ys e
 
     f : (l : Library) × (find_library ls x ≡ some l)

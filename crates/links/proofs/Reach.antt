@@ -8,7 +8,7 @@ use Rattle.base.proofs.Names.{once_append}
 use Rattle.library.specs.Library.{Library, find_library}
 use Rattle.links.specs.Closure.{news, breadth}
 use Rattle.links.specs.Laws.{Found}
-use Rattle.links.specs.Reach.{Needs, Reaches, itself, further, Closed-from, ClosureReaches}
+use Rattle.links.specs.Reach.{Needs, Reaches, itself, further, ClosedFrom, ClosureReaches}
 use Rattle.links.proofs.Among.{among_here, among_first, among_there, among_cases, among_none, among_left, among_right, among_split, once_front}
 use Rattle.links.proofs.Closure.{news_fresh, found_more}
 use Rattle.links.proofs.Cost.{once_count}
@@ -70,7 +70,7 @@ module _ (ls : List Library) (x : Name) where
   all_reached seen e c y itself = e
   all_reached seen e c y (further v w p n) = c v w (all_reached seen e c v p) n
 
-  through : (n : ℕ) (done queue seen ys : List Name) → Spreads ls x done queue seen → breadth n ls queue seen ≡ some ys → Closed-from ls x ys
+  through : (n : ℕ) (done queue seen ys : List Name) → Spreads ls x done queue seen → breadth n ls queue seen ≡ some ys → ClosedFrom ls x ys
   through n done [] seen ys r e = rw (← some_is e) (record { once = r.once; found = rw same r.found; each = all_reached seen r.root (λ y z h. r.closed y z (rw same at h)); only = r.reached })
     where
       same : seen ≡ done

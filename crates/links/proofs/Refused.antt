@@ -1,7 +1,7 @@
 -- Why a load is refused.
 use Rattle.std.proofs.Common.{◌≡◌, ℕ, suc, ◌+◌, ◌<◌, ◌≤◌, Bool, true, false, not, ◌||◌, leb, List, [], ◌∷◌, length, sym, refl, ap, ⊎_elim, arith}
 use mathlib.Core.Option.{Option, some, none}
-use Rattle.base.specs.Choices.{opt, on_some, guard, is_some}
+use Rattle.base.specs.Choices.{opt, on_some, guard, has_value}
 use Rattle.base.specs.Lists.{nth, all_of, has}
 use Rattle.base.specs.Names.{Name}
 use Rattle.base.proofs.Choices.{some_is, none_not_some}
@@ -50,13 +50,13 @@ one_more k i d cs t = (suc t.0, t.1, t.2, t.3, t.4)
 cells_open : (k : Links) (i : ℕ) (cs : List Cell) → all_of (ref_met k i) cs ≡ false → OpenRef k i cs
 cells_open k i [] e = let z : ◌≡◌ {A = ℕ} 0 1 = cc in absurd (omega arith)
 cells_open k i (number n ∷ cs) e = one_more k i (number n) cs (cells_open k i cs e)
-cells_open k i (ref s n must ∷ cs) e = ⊎_elim (λ p. here must (or_parts (not must) (is_some (resolve k i s)) p)) (λ p. one_more k i (ref s n must) cs (cells_open k i cs p)) (and_cases (not must || is_some (resolve k i s)) (all_of (ref_met k i) cs) e)
+cells_open k i (ref s n must ∷ cs) e = ⊎_elim (λ p. here must (or_parts (not must) (has_value (resolve k i s)) p)) (λ p. one_more k i (ref s n must) cs (cells_open k i cs p)) (and_cases (not must || has_value (resolve k i s)) (all_of (ref_met k i) cs) e)
   where
-    nothing : (o : Option Place) → is_some o ≡ false → o ≡ none
+    nothing : (o : Option Place) → has_value o ≡ false → o ≡ none
     nothing none q = refl
     nothing (some p) q = let z : ◌≡◌ {A = ℕ} 0 1 = cc in absurd (omega arith)
 
-    here : (b : Bool) → (not b ≡ false) × (is_some (resolve k i s) ≡ false) → OpenRef k i (ref s n b ∷ cs)
+    here : (b : Bool) → (not b ≡ false) × (has_value (resolve k i s) ≡ false) → OpenRef k i (ref s n b ∷ cs)
     here true q = (0, s, n, refl, nothing (resolve k i s) q.1)
     here false q = let z : ◌≡◌ {A = ℕ} 0 1 = cc in absurd (omega arith)
 cells_open k i (at n ∷ cs) e = one_more k i (at n) cs (cells_open k i cs e)

@@ -10,7 +10,7 @@ use Rattle.links.specs.Symbols.{find_def}
 use Rattle.links.specs.Links.{Place, place_at, Module, Links}
 use Rattle.links.specs.Scope.{live_at, members_of, scope, lookup}
 use Rattle.links.specs.Close.{is_open, found_in}
-use Rattle.links.specs.Resolved.{offers, First-of, ResolveFirst}
+use Rattle.links.specs.Resolved.{offers, FirstOf, ResolveFirst}
 use Rattle.links.proofs.Keys.{look_in, live_from}
 
 -- one module after the other, by what each offers
@@ -26,13 +26,13 @@ lookup_on ms me s j js = go (live_at ms j)
     go (some x) = def_go (find_def (eqb me j) x.lib.defs s)
 
 module _ (ms : List Module) (me : ℕ) (s : Symbol) where
-  lookup_first : (js : List ℕ) (p : Place) → lookup ms me s js ≡ some p → First-of ms me s js p
+  lookup_first : (js : List ℕ) (p : Place) → lookup ms me s js ≡ some p → FirstOf ms me s js p
   lookup_first [] p e = absurd (none_not_some e)
   lookup_first (j ∷ js) p e = go (offers ms me s j) refl (sym (lookup_on ms me s j js) ∙ e) (lookup_first js p)
     where
-      go : (o : Option ℕ) → offers ms me s j ≡ o → opt o (lookup ms me s js) (λ k. some (place_at j k)) ≡ some p → (lookup ms me s js ≡ some p → First-of ms me s js p) → First-of ms me s (j ∷ js) p
+      go : (o : Option ℕ) → offers ms me s j ≡ o → opt o (lookup ms me s js) (λ k. some (place_at j k)) ≡ some p → (lookup ms me s js ≡ some p → FirstOf ms me s js p) → FirstOf ms me s (j ∷ js) p
       go none q e r = let t = r e in record { earlier = j ∷ t.earlier; later = t.later; stands = ap (λ z. j ∷ z) t.stands; nothing = (q, t.nothing); cell = t.cell }
-      go (some k) q e r = subst (First-of ms me s (j ∷ js)) (some_is e) (record { earlier = []; later = js; stands = refl; nothing = tt; cell = q })
+      go (some k) q e r = subst (FirstOf ms me s (j ∷ js)) (some_is e) (record { earlier = []; later = js; stands = refl; nothing = tt; cell = q })
 
   lookup_nowhere : (js : List ℕ) → lookup ms me s js ≡ none → Each (λ j. offers ms me s j ≡ none) js
   lookup_nowhere [] e = tt
@@ -42,10 +42,10 @@ module _ (ms : List Module) (me : ℕ) (s : Symbol) where
       go none q e r = (q, r e)
       go (some k) q e r = absurd (none_not_some (sym e))
 
-found_first : (k : Links) (h : ℕ) (x : Name) (p : Place) → found_in k h x ≡ some p → (is_open k h ≡ true) × First-of k.modules (length k.modules) (record { name = x; version = any_version }) (members_of k.groups h) p
+found_first : (k : Links) (h : ℕ) (x : Name) (p : Place) → found_in k h x ≡ some p → (is_open k h ≡ true) × FirstOf k.modules (length k.modules) (record { name = x; version = any_version }) (members_of k.groups h) p
 found_first k h x p e = go (is_open k h) refl e
   where
-    go : (b : Bool) → is_open k h ≡ b → guard b (lookup k.modules (length k.modules) (record { name = x; version = any_version }) (members_of k.groups h)) ≡ some p → (is_open k h ≡ true) × First-of k.modules (length k.modules) (record { name = x; version = any_version }) (members_of k.groups h) p
+    go : (b : Bool) → is_open k h ≡ b → guard b (lookup k.modules (length k.modules) (record { name = x; version = any_version }) (members_of k.groups h)) ≡ some p → (is_open k h ≡ true) × FirstOf k.modules (length k.modules) (record { name = x; version = any_version }) (members_of k.groups h) p
     go true q e = (q, lookup_first k.modules (length k.modules) _ (members_of k.groups h) p e)
     go false q e = absurd (none_not_some e)
 

@@ -1,7 +1,7 @@
 -- Links stay whole.
 use Rattle.std.proofs.Common.{◌≡◌, ℕ, zero, suc, ◌+◌, Bool, true, false, not, ◌&&◌, leb, ◌⊎◌, List, [], ◌∷◌, ◌++◌, map, length, sym, refl, ap, ◌∙◌, subst, inl, inr, ⊎_elim, arith}
 use mathlib.Core.Option.{Option, some, none}
-use Rattle.base.specs.Choices.{pick, opt, on_some, is_some}
+use Rattle.base.specs.Choices.{pick, opt, on_some, has_value}
 use Rattle.base.specs.Lists.{nth, put, has, keep, Within}
 use Rattle.base.specs.Names.{Name, among, Once}
 use Rattle.base.proofs.Choices.{some_is, none_not_some, on_some_inv, guard_inv}
@@ -53,7 +53,7 @@ close_whole k h w = record { linked = keeps_linked.by_close k h w.linked; bound 
 
 -- what is live leaves or stays
 pub leaves_or_stays : (k : Links) → Whole k → (i : ℕ) → Live k.modules i → (has i (leaving k) ≡ true) ⊎ (has i (staying k) ≡ true)
-leaves_or_stays k w i h = ⊎_elim inr (λ q. inl (has-keep (λ j. is_some (live_at k.modules j) && not (has j (staying k))) i k.order (w.ordered i h) (λ t. h t && not (q t)))) (cases_Bool (has i (staying k)))
+leaves_or_stays k w i h = ⊎_elim inr (λ q. inl (has-keep (λ j. has_value (live_at k.modules j) && not (has j (staying k))) i k.order (w.ordered i h) (λ t. h t && not (q t)))) (cases_Bool (has i (staying k)))
 
 unload_whole : (k : Links) (js : List ℕ) → Whole k → ((i : ℕ) → Live k.modules i → (has i js ≡ true) ⊎ (has i (staying k) ≡ true)) → Whole (unload js k)
 unload_whole k js w c = record { linked = keeps_linked.by_unload k js w.linked; bound = λ i j x e h. let p = unload_inv ds k.modules i x e in lives j (w.bound i j x p.0 h) (stays_least.closed k w.linked j (bound_in k.modules (staying k) i j (in_staying i x p.0 p.1) (subst (λ o. has j (opt o [] (λ x. hosts x.bound)) ≡ true) (sym p.0) h))); members = λ j e. lives j (w.members j e) (stays_least.roots k j e); one_each = λ i j x y p q. w.one_each i j x y (unload_inv ds k.modules i x p).0 (unload_inv ds k.modules j y q).0; ordered = λ j h. let t = live_is (unload_all ds k.modules) j h in w.ordered j (is_live k.modules j t.0 (unload_inv ds k.modules j t.0 t.1).0); once = w.once }
@@ -63,7 +63,7 @@ unload_whole k js w c = record { linked = keeps_linked.by_unload k js w.linked; 
 
     -- what stays isn't unloaded
     kept : (j : ℕ) → has j (staying k) ≡ true → has j ds ≡ false
-    kept j e = ⊎_elim (λ p. let q = keep-has (λ j. has j (leaving k)) j js p in let t = keep-has (λ j. is_some (live_at k.modules j) && not (has j (staying k))) j k.order q.1 in absurd (both (is_some (live_at k.modules j)) (has j (staying k)) t.1 e)) (λ p. p) (cases_Bool (has j ds))
+    kept j e = ⊎_elim (λ p. let q = keep-has (λ j. has j (leaving k)) j js p in let t = keep-has (λ j. has_value (live_at k.modules j) && not (has j (staying k))) j k.order q.1 in absurd (both (has_value (live_at k.modules j)) (has j (staying k)) t.1 e)) (λ p. p) (cases_Bool (has j ds))
       where
         both : (a b : Bool) → (a && not b) ≡ true → b ≡ true → ⊥
         both true true p q = let z : ◌≡◌ {A = ℕ} 0 1 = cc in omega arith

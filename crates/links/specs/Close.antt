@@ -1,7 +1,7 @@
 -- Closing a group: what is retained, what leaves; finding in a group; a slot bound.
 use Rattle.std.specs.Prelude.{ℕ, zero, suc, Bool, false, not, ◌&&◌, List, [], ◌∷◌, ◌++◌, length}
 use Rattle.std.proofs.Math.Option.{Option, some, none}
-use Rattle.base.specs.Choices.{pick, opt, guard, is_some}
+use Rattle.base.specs.Choices.{pick, opt, guard, has_value}
 use Rattle.base.specs.Lists.{nth, put, has, keep, reverse}
 use Rattle.base.specs.Names.{Name}
 use Rattle.library.specs.Library.{any_version}
@@ -37,7 +37,7 @@ retained (suc n) is js = retained n is (joins (bound_of is js) js)
 
 -- the modules that no open group and no retained module keeps, in the order of initialisation
 abbrev pub leaving : Links → List ℕ
-leaving k = keep (λ j. is_some (live_at k.modules j) && not (has j (retained (length k.modules) k.modules (joins (open_members k.groups) [])))) k.order
+leaving k = keep (λ j. has_value (live_at k.modules j) && not (has j (retained (length k.modules) k.modules (joins (open_members k.groups) [])))) k.order
 
 -- the module, gone
 abbrev pub unloaded : Module → Module

@@ -1,7 +1,7 @@
 -- What holds of closures, loads and closes.
 use Rattle.std.specs.Prelude.{◌≡◌, ℕ, zero, suc, ◌+◌, ◌<◌, ◌≤◌, Bool, true, not, ◌&&◌, List, [], ◌∷◌, ◌++◌, map, length}
 use Rattle.std.proofs.Math.Option.{some}
-use Rattle.base.specs.Choices.{is_some}
+use Rattle.base.specs.Choices.{has_value}
 use Rattle.base.specs.Lists.{has, keep, Each, Within}
 use Rattle.base.specs.Names.{Name, Once}
 use Rattle.library.specs.Library.{Symbol, Library, find_library}
@@ -104,7 +104,7 @@ pub record Retains (k : Links) (s : List ℕ) : Type 0 where
 
 -- tells what leaves
 abbrev pub LeavingBySet : Type 0
-LeavingBySet = (k : Links) (s : List ℕ) → Retains k s → leaving k ≡ keep (λ j. is_some (live_at k.modules j) && not (has j s)) k.order
+LeavingBySet = (k : Links) (s : List ℕ) → Retains k s → leaving k ≡ keep (λ j. has_value (live_at k.modules j) && not (has j s)) k.order
 
 -- and it may grow by what a member is bound to
 abbrev pub RetainsMore : Type 0

@@ -1,7 +1,7 @@
 -- Loading: a library and its closure become a group.
 use Rattle.std.specs.Prelude.{ℕ, suc, ◌+◌, Bool, true, not, ◌&&◌, ◌||◌, List, [], ◌∷◌, ◌++◌, map, length, nat_le}
 use Rattle.std.proofs.Math.Option.{Option, some, none}
-use Rattle.base.specs.Choices.{pick, opt, on_some, guard, is_some}
+use Rattle.base.specs.Choices.{pick, opt, on_some, guard, has_value}
 use Rattle.base.specs.Lists.{nth, put, all_of, has}
 use Rattle.base.specs.Names.{Name, same}
 use Rattle.library.specs.Library.{Cell, number, ref, at, slot, named, instruction, Library, find_library}
@@ -50,7 +50,7 @@ bring_all ls m g (x ∷ xs) b = on_some (bring_one ls m g b x) (λ c. bring_all 
 -- every name that must be there is
 abbrev pub ref_met : Links → ℕ → Cell → Bool
 ref_met k me (number n) = true
-ref_met k me (ref s n must) = not must || is_some (resolve k me s)
+ref_met k me (ref s n must) = not must || has_value (resolve k me s)
 ref_met k me (at n) = true
 ref_met k me (slot s) = true
 ref_met k me (named x) = true

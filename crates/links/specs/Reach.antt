@@ -17,7 +17,7 @@ pub data Reaches (ls : List Library) (x : Name) : Name → Type 0 where
   further : (y z : Name) → Reaches ls x y → Needs ls y z → Reaches ls x z
 
 -- ys are the libraries that x reaches: all of them, no other, each once, each of the text
-pub record Closed-from (ls : List Library) (x : Name) (ys : List Name) : Type 0 where
+pub record ClosedFrom (ls : List Library) (x : Name) (ys : List Name) : Type 0 where
   pub once : Once ys
   pub found : Found ls ys
   pub each : (y : Name) → Reaches ls x y → among y ys ≡ true
@@ -25,7 +25,7 @@ pub record Closed-from (ls : List Library) (x : Name) (ys : List Name) : Type 0 
 
 -- a closure has what the library reaches; there is none only where it reaches one that the text hasn't
 pub record ClosureReaches : Type 0 where
-  pub has : (ls : List Library) (x : Name) (ys : List Name) → closure ls x ≡ some ys → Closed-from ls x ys
+  pub has : (ls : List Library) (x : Name) (ys : List Name) → closure ls x ≡ some ys → ClosedFrom ls x ys
   pub misses : (ls : List Library) (x : Name) → closure ls x ≡ none → (y : Name) × Reaches ls x y × (find_library ls y ≡ none)
 
 -- the names that stand before y
@@ -34,11 +34,11 @@ before y [] = []
 before y (x ∷ xs) = pick (same y x) [] (x ∷ before y xs)
 
 -- the libraries of ys, each once; what one of them needs stands before it, or needs it in turn: a ring
-pub record In-order (ls : List Library) (ys zs : List Name) : Type 0 where
+pub record InOrder (ls : List Library) (ys zs : List Name) : Type 0 where
   pub once : Once zs
   pub same : (y : Name) → among y zs ≡ among y ys
   pub needs_first : (y z : Name) → among y zs ≡ true → Needs ls y z → (among z (before y zs) ≡ true) ⊎ Reaches ls z y
 
 -- the order of initialisation is such an order of the closure
 abbrev pub OrderRight : Type 0
-OrderRight = (ls : List Library) (x : Name) (ys : List Name) → closure ls x ≡ some ys → In-order ls ys (init_order ls x)
+OrderRight = (ls : List Library) (x : Name) (ys : List Name) → closure ls x ≡ some ys → InOrder ls ys (init_order ls x)

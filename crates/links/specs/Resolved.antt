@@ -15,7 +15,7 @@ abbrev pub offers : List Module → ℕ → Symbol → ℕ → Option ℕ
 offers ms me s j = on_some (live_at ms j) (λ x. find_def (me == j) x.lib.defs s)
 
 -- p is what the first of js offers that offers anything
-pub record First-of (ms : List Module) (me : ℕ) (s : Symbol) (js : List ℕ) (p : Place) : Type 0 where
+pub record FirstOf (ms : List Module) (me : ℕ) (s : Symbol) (js : List ℕ) (p : Place) : Type 0 where
   pub earlier : List ℕ
   pub later : List ℕ
   pub stands : js ≡ earlier ++ (p.host ∷ later)
@@ -24,7 +24,7 @@ pub record First-of (ms : List Module) (me : ℕ) (s : Symbol) (js : List ℕ) (
 
 -- a symbol means the first definition in the module's scope, which is live; it means nothing only where none of the scope offers any; find goes through an open group in the same way, with the eyes of none of its modules
 pub record ResolveFirst : Type 0 where
-  pub found : (k : Links) (me : ℕ) (s : Symbol) (p : Place) → resolve k me s ≡ some p → First-of k.modules me s (scope k me) p
+  pub found : (k : Links) (me : ℕ) (s : Symbol) (p : Place) → resolve k me s ≡ some p → FirstOf k.modules me s (scope k me) p
   pub nowhere : (k : Links) (me : ℕ) (s : Symbol) → resolve k me s ≡ none → Each (λ j. offers k.modules me s j ≡ none) (scope k me)
   pub live : (k : Links) (me : ℕ) (s : Symbol) (p : Place) → resolve k me s ≡ some p → (x : Module) × (live_at k.modules p.host ≡ some x)
-  pub in_group : (k : Links) (h : ℕ) (x : Name) (p : Place) → found_in k h x ≡ some p → (is_open k h ≡ true) × First-of k.modules (length k.modules) (record { name = x; version = any_version }) (members_of k.groups h) p
+  pub in_group : (k : Links) (h : ℕ) (x : Name) (p : Place) → found_in k h x ≡ some p → (is_open k h ≡ true) × FirstOf k.modules (length k.modules) (record { name = x; version = any_version }) (members_of k.groups h) p

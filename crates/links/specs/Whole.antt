@@ -1,7 +1,7 @@
 -- What holds of the links of every program, always.
 use Rattle.std.specs.Prelude.{◌≡◌, ℕ, Bool, true, false, ◌⊎◌, List, [], ◌∷◌, length}
 use Rattle.std.proofs.Math.Option.{some}
-use Rattle.base.specs.Choices.{is_some}
+use Rattle.base.specs.Choices.{has_value}
 use Rattle.base.specs.Lists.{has, Within}
 use Rattle.base.specs.Names.{Name}
 use Rattle.library.specs.Library.{Library}
@@ -23,7 +23,7 @@ pub record StaysLeast : Type 0 where
 
 -- the module i is there
 abbrev pub Live : List Module → ℕ → Type 0
-Live ms i = is_some (live_at ms i) ≡ true
+Live ms i = has_value (live_at ms i) ≡ true
 
 -- no two live modules have one name
 abbrev pub OneEach : List Module → Type 0

@@ -1,7 +1,7 @@
 -- Where room is never short, a program shows the same.
 use Rattle.std.proofs.Common.{◌≡◌, ℕ, zero, suc, ◌+◌, ◌*◌, ◌≤◌, Bool, true, false, not, ◌&&◌, ◌||◌, eqb, List, [], ◌∷◌, ◌++◌, map, length, sym, refl, ap, ◌∙◌, subst₂, ⊎_elim, arith}
 use mathlib.Core.Option.{Option, some, none}
-use Rattle.base.specs.Choices.{pick, opt, on_some, guard, is_some}
+use Rattle.base.specs.Choices.{pick, opt, on_some, guard, has_value}
 use Rattle.base.specs.Lists.{nth, put, all_of}
 use Rattle.base.specs.Names.{Name}
 use Rattle.library.specs.Library.{Instruction, Open, Cell, number, ref, at, slot, named, instruction, Library, find_library}
@@ -67,7 +67,7 @@ module _ (ls : List Library) (m k : Room) where
 met_tag : (k : Links) (u i : ℕ) (cs : List Cell) → all_of (ref_met (used_links k u) i) cs ≡ all_of (ref_met k i) cs
 met_tag k u i [] = refl
 met_tag k u i (number n ∷ cs) = met_tag k u i cs
-met_tag k u i (ref s n must ∷ cs) = ap (λ b. (not must || is_some (resolve k i s)) && b) (met_tag k u i cs)
+met_tag k u i (ref s n must ∷ cs) = ap (λ b. (not must || has_value (resolve k i s)) && b) (met_tag k u i cs)
 met_tag k u i (at n ∷ cs) = met_tag k u i cs
 met_tag k u i (slot s ∷ cs) = met_tag k u i cs
 met_tag k u i (named x ∷ cs) = met_tag k u i cs

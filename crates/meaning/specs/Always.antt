@@ -58,7 +58,7 @@ abbrev pub GoneStays : Type 0
 GoneStays = (ls : List Library) (m : Room) (s : State) (n k i : ℕ) → n ≤ k → i < length (state_of (after ls m s n)).links.modules → Live (state_of (after ls m s k)).links.modules i → Live (state_of (after ls m s n)).links.modules i
 
 -- from s to t the register r got 0, and nothing else was done
-pub record Only-zero (r : ℕ) (s t : State) : Type 0 where
+pub record OnlyZero (r : ℕ) (s t : State) : Type 0 where
   pub links : t.links ≡ s.links
   pub cells : t.cells ≡ s.cells
   pub regs : t.core.regs ≡ put s.core.regs r (num 0)
@@ -70,4 +70,4 @@ pub record Only-zero (r : ℕ) (s t : State) : Type 0 where
 
 -- an open that cannot be loaded gives 0, and no later answer is another for it
 abbrev pub OpenRefused : Type 0
-OpenRefused = (ls : List Library) (m : Room) (s : State) (r : ℕ) (global : Bool) (x : Name) → load ls m x global s.links ≡ none → (t : State) × (opens ls m s r global x ≡ goes t) × Only-zero r s t
+OpenRefused = (ls : List Library) (m : Room) (s : State) (r : ℕ) (global : Bool) (x : Name) → load ls m x global s.links ≡ none → (t : State) × (opens ls m s r global x ≡ goes t) × OnlyZero r s t

@@ -51,12 +51,12 @@ greeting =
 
 -- a and b both define f, and b calls it; b looks in itself first, or not
 abbrev pub two_define : Bool → List Library
-two_define b-inward =
+two_define b_inward =
     program_of ("a" ∷ "b" ∷ []) []
     (op (Call 2) ∷ op Ret ∷ slot_of "g" ∷ []) ∷
     library_of "a" [] (defines "f" "1" 0 ∷ []) [] []
     (op (Set 0 1) ∷ op (Out 0) ∷ op Ret ∷ []) ∷
-    looking_inward b-inward (library_of "b" [] (defines "f" "1" 0 ∷ defines "g" "1" 3 ∷ []) [] []
+    looking_inward b_inward (library_of "b" [] (defines "f" "1" 0 ∷ defines "g" "1" 3 ∷ []) [] []
     (op (Set 0 2) ∷ op (Out 0) ∷ op Ret ∷ op (Call 5) ∷ op Ret ∷ slot_of "f" ∷ [])) ∷ []
 
 -- p opens a twice and closes both groups

@@ -5,7 +5,7 @@ use Rattle.std.specs.declared.option.Option.TheVariants as opt
 use Rattle.std.proofs.lemmas.List.{length-map, length-set, map_push}
 use Rattle.std.proofs.lemmas.Bool.{lt-ltb, and_from}
 use Rattle.base.specs.Choices as choices
-use Rattle.base.specs.Choices.{pick, is_some, on_ok}
+use Rattle.base.specs.Choices.{pick, has_value, on_ok}
 use Rattle.base.specs.Names.{Name, same}
 use Rattle.text.specs.Words.{cut, full, words_of}
 use Rattle.text.specs.Readers.{bytes, pieces, words}
@@ -58,17 +58,17 @@ pub finish_some : (p q : Parts) (o : Option Draft) (d : Draft) → o ≡ opt.Som
 finish_some p q o d e c s = let P : Option Draft → Type 0 = Finished p q in subst P (sym e) (record { text = s.text; rows = s.rows; kept = s.kept; done = ap (λ r. on_ok r (λ l. Ok (libraries p.tables ++ (l ∷ [])))) c ∙ ap Ok (sym s.done); room = s.room })
 
 -- a name that there is
-has_found : (ls : List Library) (k : ℕ) (x : Name) → HasName ls k x → is_some (find_library ls x) ≡ true
+has_found : (ls : List Library) (k : ℕ) (x : Name) → HasName ls k x → has_value (find_library ls x) ≡ true
 has_found [] k x h = let z : ◌≡◌ {A = ℕ} 0 1 = cc in absurd (omega arith)
-has_found (l ∷ ls) zero x h = ap (λ b. is_some (pick b (some l) (find_library ls x))) h
+has_found (l ∷ ls) zero x h = ap (λ b. has_value (pick b (some l) (find_library ls x))) h
 has_found (l ∷ ls) (suc k) x h = go (same l.name x) (has_found ls k x h)
   where
-    go : (b : Bool) → is_some (find_library ls x) ≡ true → is_some (pick b (some l) (find_library ls x)) ≡ true
+    go : (b : Bool) → has_value (find_library ls x) ≡ true → has_value (pick b (some l) (find_library ls x)) ≡ true
     go true e = refl
     go false e = e
 
 pub name_taken : (ls : List Library) (ws us : List Name) (x y : Name) (k : ℕ) → takes a_word ws ≡ Ok (x, us) → y ≡ x → HasName ls k y → lib_words ls ws ≡ Err DuplicateLibrary
-name_taken ls ws us x y k e f h = ap (λ r. on_ok r (λ p. pick (is_some (find_library ls p.0)) (Err DuplicateLibrary) (end_line p.0 p.1))) e ∙ ap (λ b. pick b (Err DuplicateLibrary) (end_line x us)) (ap (λ z. is_some (find_library ls z)) (sym f) ∙ has_found ls k y h)
+name_taken ls ws us x y k e f h = ap (λ r. on_ok r (λ p. pick (has_value (find_library ls p.0)) (Err DuplicateLibrary) (end_line p.0 p.1))) e ∙ ap (λ b. pick b (Err DuplicateLibrary) (end_line x us)) (ap (λ z. has_value (find_library ls z)) (sym f) ∙ has_found ls k y h)
 
 -- a library begins
 pub began : (p q : Parts) (n : ℕ) (o : Option Draft) (d : Draft) (x : Name) (ws : List Name) → Finished p q o → lib_words (libraries q.tables) ws ≡ Ok x → draft_of (store q.tables) d ≡ new_draft x → Starts (store q.tables) d → Began p q n o d ws

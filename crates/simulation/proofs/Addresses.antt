@@ -35,32 +35,32 @@ behind_alone ls k s c rel i x ei = record {
 
 module _ (ls : List Library) (k : Layout) (m : Room) (s t : State) (c : Processor) (rel : Rel ls k s c) where
   -- a step that changes no word
-  record Same-words (d : Did) : Type 0 where
+  record SameWords (d : Did) : Type 0 where
     same : d.cpu.words ≡ c.words
 
-  reg_same : (a : ℕ) (f : ℕ → Did) → ((x : ℕ) → Same-words (f x)) → Same-words (Cpu.reg c a f)
+  reg_same : (a : ℕ) (f : ℕ → Did) → ((x : ℕ) → SameWords (f x)) → SameWords (Cpu.reg c a f)
   reg_same a f h = go (nth c.regs a)
     where
-      go : (o : Option ℕ) → Same-words (opt o (Cpu.did c Cpu.Stuck) f)
+      go : (o : Option ℕ) → SameWords (opt o (Cpu.did c Cpu.Stuck) f)
       go none = record { same = refl }
       go (some x) = h x
 
-  word_same : (a : ℕ) (f : ℕ → Did) → ((x : ℕ) → Same-words (f x)) → Same-words (Cpu.word c a f)
+  word_same : (a : ℕ) (f : ℕ → Did) → ((x : ℕ) → SameWords (f x)) → SameWords (Cpu.word c a f)
   word_same a f h = go (nth c.words a)
     where
-      go : (o : Option ℕ) → Same-words (opt o (Cpu.did c Cpu.Stuck) f)
+      go : (o : Option ℕ) → SameWords (opt o (Cpu.did c Cpu.Stuck) f)
       go none = record { same = refl }
       go (some x) = h x
 
-  call_same : (a x : ℕ) (b : Bool) → Same-words (pick b (Cpu.did c (Cpu.Bind a)) (Cpu.calls c x))
+  call_same : (a x : ℕ) (b : Bool) → SameWords (pick b (Cpu.did c (Cpu.Bind a)) (Cpu.calls c x))
   call_same a x true = record { same = refl }
   call_same a x false = record { same = refl }
 
-  ret_same : (ns : List ℕ) → Same-words (Cpu.returns c ns)
+  ret_same : (ns : List ℕ) → SameWords (Cpu.returns c ns)
   ret_same [] = record { same = refl }
   ret_same (n ∷ ns) = record { same = refl }
 
-  pop_same : (r : ℕ) (ns : List ℕ) → Same-words (Cpu.pops c r ns)
+  pop_same : (r : ℕ) (ns : List ℕ) → SameWords (Cpu.pops c r ns)
   pop_same r [] = record { same = refl }
   pop_same r (n ∷ ns) = record { same = refl }
 
@@ -87,7 +87,7 @@ module _ (ls : List Library) (k : Layout) (m : Room) (s t : State) (c : Processo
       others : (i j : ℕ) (x : Module) (a b : ℕ) (y : Module) → live_at s.links.modules i ≡ some x → live_at s.links.modules a ≡ some y → j < size_of k i → b ≤ size_of k a → ((a ≡ i) × (b ≡ j) → ⊥) → base_of k a + b ≡ base_of k i + j → ⊥
       others i j x a b y ei ea h l d q = ⊎_elim (λ p. d (p, omega (arith, ap (base_of k) p))) (λ p. ⊎_elim (λ u. omega arith) (λ u. omega arith) (rel.mem.ground.apart.apart a i y x ea ei p)) (cases_eq a i)
 
-  by_code : (o : Instruction) → state.held_at s s.core.here.host s.core.here.cell ≡ some (code o) → steps.does ls m s o ≡ goes t → Same-words (Cpu.does c (fields o s.core.here.cell)) ⊎ Stored k s t c (Cpu.does c (fields o s.core.here.cell)).cpu
+  by_code : (o : Instruction) → state.held_at s s.core.here.host s.core.here.cell ≡ some (code o) → steps.does ls m s o ≡ goes t → SameWords (Cpu.does c (fields o s.core.here.cell)) ⊎ Stored k s t c (Cpu.does c (fields o s.core.here.cell)).cpu
   by_code (Set r n) e q = inl (record { same = refl })
   by_code (Get r a n) e q = inl (reg_same a _ (λ x. word_same _ _ (λ y. record { same = refl })))
   by_code (Sto a n r) e q = inr (subst (λ u. IfStored u (Cpu.does c (fields (Sto a n r) s.core.here.cell))) q (sto_stored a n r e))

@@ -4,7 +4,7 @@ use mathlib.Core.Option.{some}
 use Rattle.base.specs.Lists.{nth, Each}
 use Rattle.base.proofs.Lists.{each_append}
 use Rattle.library.specs.Library.{Library, any_version, main_name}
-use Rattle.library.specs.Fine.{Library-fine}
+use Rattle.library.specs.Fine.{LibraryFine}
 use Rattle.library.proofs.Reading.{reads_fine}
 use Rattle.links.specs.Links.{place_at, Module}
 use Rattle.links.specs.Scope.{live_at}
@@ -92,7 +92,7 @@ begin t ws gap ins l ls m q er few em el = (
     es : runs.begins (l ∷ ls) (RoomOf (length ws) gap) ins ≡ some s
     es = rw (em, el)
 
-    fine : Each Library-fine (l ∷ ls)
+    fine : Each LibraryFine (l ∷ ls)
     fine = reads_fine t (l ∷ ls) er
 
     lo : Loads (l ∷ ls) (RoomOf (length ws) gap) (runs.blank ins).links q

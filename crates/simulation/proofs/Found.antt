@@ -5,7 +5,7 @@ use Rattle.base.specs.Choices.{opt}
 use Rattle.base.specs.Lists.{Each}
 use Rattle.base.proofs.Lists.{nth_lt, each_append}
 use Rattle.library.specs.Library.{Symbol, Library}
-use Rattle.library.specs.Fine.{Library-fine}
+use Rattle.library.specs.Fine.{LibraryFine}
 use Rattle.links.specs.Links.{Place, Module}
 use Rattle.links.specs.Scope.{live_at, lookup}
 use Rattle.links.specs.Load.{places, calls_of}
@@ -33,7 +33,7 @@ module _ (k : Layout) (ms : List Module) (u total : ℕ) (g : Ground k ms u tota
   spots_fit i [] h f = tt
   spots_fit i (j ∷ js) h f = ((h, omega (arith, f.0, g.placed.last i h, g.placed.few)), spots_fit i js h f.1)
 
-  pub calls_fit : (f : Library → List ℕ) → ((l : Library) → Library-fine l → Each (λ j. j < length l.cells) (f l)) → (js : List ℕ) → Each (FitsPlace k) (calls_of f ms js)
+  pub calls_fit : (f : Library → List ℕ) → ((l : Library) → LibraryFine l → Each (λ j. j < length l.cells) (f l)) → (js : List ℕ) → Each (FitsPlace k) (calls_of f ms js)
   calls_fit f h [] = tt
   calls_fit f h (j ∷ js) = each_append (FitsPlace k) (opt (live_at ms j) [] (λ x. places j (f x.lib))) (calls_of f ms js) (go (live_at ms j) refl) (calls_fit f h js)
     where

@@ -5,7 +5,7 @@ use Rattle.std.proofs.lemmas.Bool.{cases_lt}
 use Rattle.std.proofs.lemmas.List.{get_or_append_left, get_or_push, length_push, length-append}
 use Rattle.base.specs.Lists.{Each}
 use Rattle.base.proofs.Lists.{nth_lt, nth_push}
-use Rattle.library.specs.Fine.{Library-fine}
+use Rattle.library.specs.Fine.{LibraryFine}
 use Rattle.links.specs.Links.{Module, cells_in}
 use Rattle.links.specs.Scope.{live_at}
 use Rattle.links.specs.Laws.{Rising}
@@ -22,7 +22,7 @@ rising_grows u (b ∷ bs) (z ∷ zs) e r = omega (arith, r.0, rising_grows (suc 
 abbrev more : Layout → ℕ → ℕ → Layout
 more k b z = record { bases = k.bases ++ (b ∷ []); sizes = k.sizes ++ (z ∷ []) }
 
-module _ (k : Layout) (ms : List Module) (u total b : ℕ) (y : Module) (g : Ground k ms u total) (fine : Library-fine y.lib) (h₁ : u ≤ b) (h₂ : b + cells_in y < total) where
+module _ (k : Layout) (ms : List Module) (u total b : ℕ) (y : Module) (g : Ground k ms u total) (fine : LibraryFine y.lib) (h₁ : u ≤ b) (h₂ : b + cells_in y < total) where
   base_old : (i : ℕ) → i < length k.bases → base_of (more k b (cells_in y)) i ≡ base_of k i
   base_old i h = get_or_append_left k.bases (b ∷ []) 0 i h
 
@@ -58,7 +58,7 @@ module _ (k : Layout) (ms : List Module) (u total b : ℕ) (y : Module) (g : Gro
     room = omega (arith, h₂);
     count = length_push ms y ∙ rw g.count (sym (length_push k.bases b));
     sized = λ i x e. ⊎_elim (λ q. size_old i (omega (arith, nth_lt ms i x q, g.count)) ∙ g.sized i x q) (λ q. rw (q.0 ∙ g.count) (size_new ∙ ap cells_in q.1)) (nth_push ms y i x e);
-    fine = λ i x e. ⊎_elim (λ q. g.fine i x q) (λ q. subst (λ (z : Module). Library-fine z.lib) q.1 fine) (nth_push ms y i x e);
+    fine = λ i x e. ⊎_elim (λ q. g.fine i x q) (λ q. subst (λ (z : Module). LibraryFine z.lib) q.1 fine) (nth_push ms y i x e);
   }
     where
       below : (i : ℕ) (x : Module) → live_at (ms ++ (y ∷ [])) i ≡ some x → base_of (more k b (cells_in y)) i + size_of (more k b (cells_in y)) i < suc (b + cells_in y)
@@ -84,7 +84,7 @@ ground_taken k ms u e total g h l = record {
 abbrev pub grown : Layout → List ℕ → List Module → Layout
 grown k bs fresh = record { bases = k.bases ++ bs; sizes = k.sizes ++ map cells_in fresh }
 
-pub ground_all : (total : ℕ) (fresh : List Module) (bs : List ℕ) (k : Layout) (ms : List Module) (u e : ℕ) → Ground k ms u total → Rising u bs (map cells_in fresh) e → e ≤ total → Each (λ y. Library-fine y.lib) fresh → Ground (grown k bs fresh) (ms ++ fresh) e total
+pub ground_all : (total : ℕ) (fresh : List Module) (bs : List ℕ) (k : Layout) (ms : List Module) (u e : ℕ) → Ground k ms u total → Rising u bs (map cells_in fresh) e → e ≤ total → Each (λ y. LibraryFine y.lib) fresh → Ground (grown k bs fresh) (ms ++ fresh) e total
 ground_all total [] [] k ms u e g r h f = rw (append-nil k.bases, append-nil k.sizes, append-nil ms) (ground_taken k ms u e total g r h)
 ground_all total [] (b ∷ bs) k ms u e g r h f = absurd r
 ground_all total (y ∷ fresh) [] k ms u e g r h f = absurd r

@@ -8,7 +8,7 @@ use Rattle.base.specs.Names.{Name}
 use Rattle.base.proofs.Choices.{pick_true, pick_false, opt_none, opt_some}
 use Rattle.base.proofs.Lists.{length-put, nth_lt, each_nth}
 use Rattle.library.specs.Library.{Symbol, Instruction, Set, Get, Sto, Own, Add, Sub, Mul, Less, Same, Move, Jump, If0, Call, Callr, Ret, Push, Pop, Out, In, Open, Find, Close, End, Library, label_at, any_version}
-use Rattle.library.specs.Fine.{Fine, Library-fine}
+use Rattle.library.specs.Fine.{Fine, LibraryFine}
 use Rattle.links.specs.Links.{Place, Module, Group, Links}
 use Rattle.links.specs.Scope.{live_at, members_of, lookup, resolve}
 use Rattle.links.specs.Load.{Loaded, load}
@@ -82,7 +82,7 @@ closed_length gs h = go (nth gs h)
     go none = refl
     go (some g) = length-put gs h (closed_group g)
 
-module _ (w : World) (k : Layout) (i n : ℕ) (z : State) (c : Processor) (fine : Each Library-fine w.libs) (room : w.memory.words ≡ length c.words) (made : i ≤ n + n) (e : at w n ≡ goes z) (rel : Rel w.libs k z c) where
+module _ (w : World) (k : Layout) (i n : ℕ) (z : State) (c : Processor) (fine : Each LibraryFine w.libs) (room : w.memory.words ≡ length c.words) (made : i ≤ n + n) (e : at w n ≡ goes z) (rel : Rel w.libs k z c) where
   abbrev l : Loader
   l = of_state k z
 
@@ -291,38 +291,38 @@ module _ (w : World) (k : Layout) (i n : ℕ) (z : State) (c : Processor) (fine 
   by_turn : Turn k w.libs w.memory z c → Hears w l (suc i) (Cpu.step c).cpu (Cpu.step c).event
   by_turn (fell y s q) = fell_hears w l (suc i) _ _ (suc n, y, next_is w n z e ∙ s, subst (λ x. Front x (Cpu.step c).cpu.outs) (sym q) (step_shows c))
   by_turn (went t s q r a b) = rw q (in_code (suc n) t (omega arith) (next_is w n z e ∙ s) (record { links = a; rows = b }) r)
-  by_turn (asked o at-o s f a) = by_op o at-o s f a
+  by_turn (asked o at_o s f a) = by_op o at_o s f a
     where
       told : (d : Did) → Cpu.step c ≡ d → Hears w l (suc i) d.cpu d.event → Hears w l (suc i) (Cpu.step c).cpu (Cpu.step c).event
       told d q h = subst (λ d. Hears w l (suc i) d.cpu d.event) (sym q) h
 
       by_op : (o : Instruction) → steps.own z z.core.here.cell ≡ some (code o) → steps.step w.libs w.memory z ≡ steps.does w.libs w.memory z o → Fine o → Asks w.libs k z c o (Cpu.step c) → Hears w l (suc i) (Cpu.step c).cpu (Cpu.step c).event
-      by_op (Set r m) at-o s f a = absurd a
-      by_op (Get r b m) at-o s f a = absurd a
-      by_op (Sto r m b) at-o s f a = absurd a
-      by_op (Own r j) at-o s f a = absurd a
-      by_op (Add r x y) at-o s f a = absurd a
-      by_op (Sub r x y) at-o s f a = absurd a
-      by_op (Mul r x y) at-o s f a = absurd a
-      by_op (Less r x y) at-o s f a = absurd a
-      by_op (Same r x y) at-o s f a = absurd a
-      by_op (Move r x) at-o s f a = absurd a
-      by_op (Jump j) at-o s f a = absurd a
-      by_op (If0 r j) at-o s f a = absurd a
-      by_op (Call j) at-o s f a = told _ a.asks (inr (bind_heard j a.symbol at-o a.unsettled s))
-      by_op (Callr r) at-o s f a = absurd a
-      by_op Ret at-o s f a = told _ a.asks (homing n z a.calls a.sequel a.frames (omega arith) e (s ∙ ap (calls.returns z) a.newest) a.newest a.fits (record {
+      by_op (Set r m) at_o s f a = absurd a
+      by_op (Get r b m) at_o s f a = absurd a
+      by_op (Sto r m b) at_o s f a = absurd a
+      by_op (Own r j) at_o s f a = absurd a
+      by_op (Add r x y) at_o s f a = absurd a
+      by_op (Sub r x y) at_o s f a = absurd a
+      by_op (Mul r x y) at_o s f a = absurd a
+      by_op (Less r x y) at_o s f a = absurd a
+      by_op (Same r x y) at_o s f a = absurd a
+      by_op (Move r x) at_o s f a = absurd a
+      by_op (Jump j) at_o s f a = absurd a
+      by_op (If0 r j) at_o s f a = absurd a
+      by_op (Call j) at_o s f a = told _ a.asks (inr (bind_heard j a.symbol at_o a.unsettled s))
+      by_op (Callr r) at_o s f a = absurd a
+      by_op Ret at_o s f a = told _ a.asks (homing n z a.calls a.sequel a.frames (omega arith) e (s ∙ ap (calls.returns z) a.newest) a.newest a.fits (record {
         links = refl;
         rows = refl;
       }) refl (record { mem = rel.mem; regs = rel.regs; backs = a.backs; pushed = rel.pushed; ins = rel.ins; outs = rel.outs }))
-      by_op (Push r) at-o s f a = absurd a
-      by_op (Pop r) at-o s f a = absurd a
-      by_op (Out r) at-o s f a = absurd a
-      by_op (In r) at-o s f a = absurd a
-      by_op (Open r j b) at-o s f a = told _ a.asks (inr (open_heard (low k w.libs w.memory z c rel _ at-o) r j a.word b a.name f.0 a.holds a.counted s))
-      by_op (Find r x j) at-o s f a = told _ a.asks (find_heard (low k w.libs w.memory z c rel _ at-o) r x j a.word a.name f.0 f.1 a.holds a.counted s)
-      by_op (Close r) at-o s f a = told _ a (close_heard (low k w.libs w.memory z c rel _ at-o) r f s)
-      by_op (End r) at-o s f a = told _ a (end_heard (low k w.libs w.memory z c rel _ at-o) r f s)
+      by_op (Push r) at_o s f a = absurd a
+      by_op (Pop r) at_o s f a = absurd a
+      by_op (Out r) at_o s f a = absurd a
+      by_op (In r) at_o s f a = absurd a
+      by_op (Open r j b) at_o s f a = told _ a.asks (inr (open_heard (low k w.libs w.memory z c rel _ at_o) r j a.word b a.name f.0 a.holds a.counted s))
+      by_op (Find r x j) at_o s f a = told _ a.asks (find_heard (low k w.libs w.memory z c rel _ at_o) r x j a.word a.name f.0 f.1 a.holds a.counted s)
+      by_op (Close r) at_o s f a = told _ a (close_heard (low k w.libs w.memory z c rel _ at_o) r f s)
+      by_op (End r) at_o s f a = told _ a (end_heard (low k w.libs w.memory z c rel _ at_o) r f s)
 
 pub step_heard : StepHeard
 step_heard w l i c fine room (in_code n z h e m rel) = subst (λ x. Hears w x (suc i) (Cpu.step c).cpu (Cpu.step c).event) (matches_is l z m) (by_turn w l.layout i n z c fine room h e rel (turn l.layout w.libs w.memory z c rel))

@@ -5,9 +5,9 @@ use Rattle.std.proofs.lemmas.List.{length-append, length-map, get_or-append-add}
 use Rattle.base.specs.Choices.{opt, over}
 use Rattle.base.specs.Lists.{nth, Each}
 use Rattle.base.specs.Names.{Name}
-use Rattle.base.proofs.Lists.{nth_lt, nth_is, each_nth, nth_right, nth-getD}
+use Rattle.base.proofs.Lists.{nth_lt, nth_is, each_nth, nth_right, nth-get_or}
 use Rattle.library.specs.Library.{Symbol, Cell, number, ref, at, slot, named, instruction, Library, find_library, label_at, cells_before}
-use Rattle.library.specs.Fine.{CellFine, Library-fine}
+use Rattle.library.specs.Fine.{CellFine, LibraryFine}
 use Rattle.library.proofs.Labels.{each_found, label_counted}
 use Rattle.links.specs.Links.{Place, Module, Links, Room, cells_in}
 use Rattle.links.specs.Scope.{live_at, scope, resolve}
@@ -25,16 +25,16 @@ use Rattle.simulation.proofs.Grown.{grown, ground_all, wider_grown}
 use Rattle.simulation.proofs.Found.{place_fits}
 use Rattle.simulation.proofs.Images.{nth_front, starts_long, laid_all_length, laid_all_below, laid_all_at, nth_first, length_first, nth_words, nth_new, length_new, nth_images, images_long, nth_either, found_name}
 
-module _ (ls : List Library) (fine : Each Library-fine ls) (k : Layout) (ks : Links) (css : List (List Held)) (ws : List ℕ) (mem : Mem ls k ks css ws) (m : Room) (q : Loaded) (l : Loads ls m ks q) (room : m.words ≤ length ws) where
+module _ (ls : List Library) (fine : Each LibraryFine ls) (k : Layout) (ks : Links) (css : List (List Held)) (ws : List ℕ) (mem : Mem ls k ks css ws) (m : Room) (q : Loaded) (l : Loads ls m ks q) (room : m.words ≤ length ws) where
   abbrev pub k' : Layout
   k' = grown k q.starts l.fresh
 
   abbrev pub ws' : List ℕ
   ws' = laid_all ws q.starts (images ls k' q.links q.new)
 
-  comes_fine : (fresh : List Module) → Each (Comes ls (length ks.groups)) fresh → Each (λ y. Library-fine y.lib) fresh
+  comes_fine : (fresh : List Module) → Each (Comes ls (length ks.groups)) fresh → Each (λ y. LibraryFine y.lib) fresh
   comes_fine [] c = tt
-  comes_fine (y ∷ fresh) c = (each_found Library-fine ls c.0.name y.lib fine c.0.found, comes_fine fresh c.1)
+  comes_fine (y ∷ fresh) c = (each_found LibraryFine ls c.0.name y.lib fine c.0.found, comes_fine fresh c.1)
 
   ground' : Ground k' q.links.modules q.links.used (length ws)
   ground' = subst (λ ms. Ground k' ms q.links.used (length ws)) (sym l.modules) (ground_all (length ws) l.fresh q.starts k ks.modules ks.used q.links.used mem.ground l.rising (omega (arith, l.fits)) (comes_fine l.fresh l.come))
@@ -73,7 +73,7 @@ module _ (ls : List Library) (fine : Each Library-fine ls) (k : Layout) (ks : Li
     counted j y g = let c = come_x in label_counted ls x.lib.name x.lib j y (ap (find_library ls) (found_name ls c.0 x.lib c.1) ∙ c.1) g
 
     base_is : (b : ℕ) → nth q.starts d ≡ some b → base_of k' me ≡ b
-    base_is b g = ap (λ n. get_or (k.bases ++ q.starts) (n + d) 0) mem.ground.count ∙ get_or-append-add k.bases q.starts d 0 ∙ nth-getD q.starts d b 0 g
+    base_is b g = ap (λ n. get_or (k.bases ++ q.starts) (n + d) 0) mem.ground.count ∙ get_or-append-add k.bases q.starts d 0 ∙ nth-get_or q.starts d b 0 g
 
     in_k : me < length k'.bases
     in_k = omega (arith, nth_lt q.links.modules me x e, ground'.count)
@@ -108,7 +108,7 @@ module _ (ls : List Library) (fine : Each Library-fine ls) (k : Layout) (ks : Li
       cell = λ j g p. at_cell j g (nth_first q.links me x.lib.cells j g p);
     }
       where
-        fine_x : Library-fine x.lib
+        fine_x : LibraryFine x.lib
         fine_x = ground'.fine me x e
 
         start : (b : ℕ) × (nth q.starts d ≡ some b)

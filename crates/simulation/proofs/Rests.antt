@@ -15,7 +15,7 @@ use Rattle.simulation.specs.Layout.{Layout, addr_place, FitsPlace, FitsSequel, F
 use Rattle.simulation.specs.Relation.{Mem}
 use Rattle.simulation.specs.Rows.{stop, Row, row, resumes, pendings}
 use Rattle.simulation.specs.Loader.{Loader, with_rows, World, at, Stands, in_code, Between}
-use Rattle.simulation.specs.Handlers.{Goes_on, RowGoesOn}
+use Rattle.simulation.specs.Handlers.{GoesOn, RowGoesOn}
 use Rattle.simulation.proofs.Under.{under_unload, mem_under}
 use Rattle.simulation.proofs.Found.{calls_fit}
 
@@ -50,7 +50,7 @@ module _ (w : World) (l : Loader) (i : ℕ) (c : Processor) (b : Between w l i c
     outs = b.idle.outs;
   })
 
-  follow : (f : Sequel) → FitsSequel k f → at w (suc b.n) ≡ calls.follows b.z f b.fs → Goes_on w l i c (pendings k b.fs) [] (resumes k f)
+  follow : (f : Sequel) → FitsSequel k f → at w (suc b.n) ≡ calls.follows b.z f b.fs → GoesOn w l i c (pendings k b.fs) [] (resumes k f)
   follow (gives r v p) h e = (
     h.0,
     in_code (suc b.n) _ (omega (arith, b.made)) e (record {
@@ -97,12 +97,12 @@ module _ (w : World) (l : Loader) (i : ℕ) (c : Processor) (b : Between w l i c
   }
   follow (stops v) h e = (suc b.n, b.z, e, sym b.idle.outs)
 
-  goes_on : (ps : List Place) (f : Sequel) → FitsFrame k (pending ps f) → at w (suc b.n) ≡ calls.returns b.z (pending ps f ∷ b.fs) → Goes_on w l i c (pendings k b.fs) ps (resumes k f)
+  goes_on : (ps : List Place) (f : Sequel) → FitsFrame k (pending ps f) → at w (suc b.n) ≡ calls.returns b.z (pending ps f ∷ b.fs) → GoesOn w l i c (pendings k b.fs) ps (resumes k f)
   goes_on [] f h e = follow f h.1 e
   goes_on (p ∷ ps) f h e = (h.0.0, next_call p ps f h e)
 
-  by_row : (r : Row) (rs : List Row) → l.rows ≡ r ∷ rs → Goes_on w l i c rs r.calls r.after
-  by_row r rs e = subst (λ x. x) (λ t. Goes_on w l i c (tails t) (heads t).calls (heads t).after) (goes_on b.ps b.f b.fits then_is)
+  by_row : (r : Row) (rs : List Row) → l.rows ≡ r ∷ rs → GoesOn w l i c rs r.calls r.after
+  by_row r rs e = subst (λ x. x) (λ t. GoesOn w l i c (tails t) (heads t).calls (heads t).after) (goes_on b.ps b.f b.fits then_is)
     where
       both : row b.ps (resumes k b.f) ∷ pendings k b.fs ≡ r ∷ rs
       both = sym (ap (pendings k) b.frames) ∙ b.matches.rows ∙ e

@@ -5,7 +5,7 @@ use Rattle.base.specs.Lists.{nth, Each}
 use Rattle.base.specs.Names.{Name}
 use Rattle.library.specs.Library.{Symbol, slot, Library, any_version, main_name, label_at}
 use Rattle.library.specs.Text.{reads}
-use Rattle.library.specs.Fine.{Library-fine}
+use Rattle.library.specs.Fine.{LibraryFine}
 use Rattle.links.specs.Links.{Place, place_at, Module, Links}
 use Rattle.links.specs.Scope.{live_at, resolve}
 use Rattle.links.specs.Symbols.{find_def}
@@ -114,19 +114,19 @@ Hears w l i c (Cpu.End r) = Fell (at w) c.outs ⊎ Ending w l i c r
 
 -- it holds after every step, of a program whose libraries are in range and whose room is the processor's memory
 abbrev pub StepHeard : Type 0
-StepHeard = (w : World) (l : Loader) (i : ℕ) (c : Processor) → Each Library-fine w.libs → w.memory.words ≡ length c.words → Stands w l i c → Hears w l (suc i) (Cpu.step c).cpu (Cpu.step c).event
+StepHeard = (w : World) (l : Loader) (i : ℕ) (c : Processor) → Each LibraryFine w.libs → w.memory.words ≡ length c.words → Stands w l i c → Hears w l (suc i) (Cpu.step c).cpu (Cpu.step c).event
 
 -- what holds when the loader goes on with its newest pending calls; rs: the others
-abbrev pub Goes_on : World → Loader → ℕ → Processor → List Row → List Place → Resume → Type 0
-Goes_on w l i c rs (p ∷ ps) f = FitsPlace l.layout p × Stands w (with_rows l (row ps f ∷ rs)) i (called c (addr_place l.layout p) 0)
-Goes_on w l i c rs [] (resume r x a) = (r < 8) × Stands w (with_rows l rs) i (gone (with_reg c r x) a)
-Goes_on w l i c rs [] (discard js r a) = (r < 8) × Stands w (record { layout = l.layout; links = unload js l.links; rows = rs }) i (gone (with_reg c r 1) a)
-Goes_on w l i c rs [] (finish n) = Between w (finishing l n) i c
-Goes_on w l i c rs [] (stop n) = EndedAt w n c.outs
+abbrev pub GoesOn : World → Loader → ℕ → Processor → List Row → List Place → Resume → Type 0
+GoesOn w l i c rs (p ∷ ps) f = FitsPlace l.layout p × Stands w (with_rows l (row ps f ∷ rs)) i (called c (addr_place l.layout p) 0)
+GoesOn w l i c rs [] (resume r x a) = (r < 8) × Stands w (with_rows l rs) i (gone (with_reg c r x) a)
+GoesOn w l i c rs [] (discard js r a) = (r < 8) × Stands w (record { layout = l.layout; links = unload js l.links; rows = rs }) i (gone (with_reg c r 1) a)
+GoesOn w l i c rs [] (finish n) = Between w (finishing l n) i c
+GoesOn w l i c rs [] (stop n) = EndedAt w n c.outs
 
 -- it holds of every call that is pending, and of all that can follow
 abbrev pub RowGoesOn : Type 0
-RowGoesOn = (w : World) (l : Loader) (i : ℕ) (c : Processor) (r : Row) (rs : List Row) → l.rows ≡ r ∷ rs → Between w l i c → Goes_on w l i c rs r.calls r.after
+RowGoesOn = (w : World) (l : Loader) (i : ℕ) (c : Processor) (r : Row) (rs : List Row) → l.rows ≡ r ∷ rs → Between w l i c → GoesOn w l i c rs r.calls r.after
 
 -- a loader that has loaded nothing
 abbrev pub nothing_loaded : Loader

@@ -2,7 +2,7 @@
 use Rattle.std.specs.Prelude.{◌≡◌, ℕ, ◌+◌, ◌<◌, ◌≤◌, ◌⊎◌, List, length, ◌≢◌, slice_index}
 use Rattle.std.proofs.Math.Option.{some}
 use Rattle.base.specs.Lists.{nth, Each}
-use Rattle.library.specs.Fine.{Library-fine}
+use Rattle.library.specs.Fine.{LibraryFine}
 use Rattle.links.specs.Links.{Place, Module}
 use Rattle.links.specs.Scope.{live_at}
 use Rattle.meaning.specs.State.{Value, num, place, Sequel, gives, drops, ends, stops, Frame, back, pending}
@@ -42,7 +42,7 @@ pub record Ground (k : Layout) (ms : List Module) (u total : ℕ) : Type 0 where
   pub room : u ≤ total
   pub count : length ms ≡ length k.bases
   pub sized : (i : ℕ) (x : Module) → nth ms i ≡ some x → size_of k i ≡ length x.lib.cells
-  pub fine : (i : ℕ) (x : Module) → nth ms i ≡ some x → Library-fine x.lib
+  pub fine : (i : ℕ) (x : Module) → nth ms i ≡ some x → LibraryFine x.lib
 
 -- a value as a word: a number itself, a place's address
 abbrev pub addr : Layout → Value → ℕ

@@ -14,13 +14,13 @@ use Rattle.simulation.specs.Relation.{Backs, Rel}
 use Rattle.simulation.specs.Rows.{pendings}
 
 -- a call through the own slot j, which isn't settled: the event has the slot's address
-pub record Asks-bind (k : Layout) (s : State) (c : Processor) (j : ℕ) (d : Did) : Type 0 where
+pub record AsksBind (k : Layout) (s : State) (c : Processor) (j : ℕ) (d : Did) : Type 0 where
   pub symbol : Symbol
   pub unsettled : steps.own s j ≡ some (link symbol none)
   pub asks : d ≡ did c (Cpu.Bind (base_of k s.core.here.host + j))
 
 -- a return to pending calls: the processor comes to address 0
-pub record Asks-pending (k : Layout) (s : State) (c : Processor) (d : Did) : Type 0 where
+pub record AsksPending (k : Layout) (s : State) (c : Processor) (d : Did) : Type 0 where
   pub calls : List Place
   pub sequel : Sequel
   pub frames : List Frame
@@ -32,7 +32,7 @@ pub record Asks-pending (k : Layout) (s : State) (c : Processor) (d : Did) : Typ
   pub asks : d ≡ did (record { words = c.words; regs = c.regs; pc = 0; backs = rest; pushed = c.pushed; ins = c.ins; outs = c.outs }) Continue
 
 -- an instruction with the name in the own cell j: the event has that name's word
-pub record Asks-by-name (ls : List Library) (s : State) (c : Processor) (j : ℕ) (event : ℕ → Event) (d : Did) : Type 0 where
+pub record AsksByName (ls : List Library) (s : State) (c : Processor) (j : ℕ) (event : ℕ → Event) (d : Did) : Type 0 where
   pub name : Name
   pub word : ℕ
   pub holds : steps.own s j ≡ some (label name)
@@ -53,15 +53,15 @@ Asks ls k s c (Same r a b) d = ⊥
 Asks ls k s c (Move r a) d = ⊥
 Asks ls k s c (Jump j) d = ⊥
 Asks ls k s c (If0 r j) d = ⊥
-Asks ls k s c (Call j) d = Asks-bind k s c j d
+Asks ls k s c (Call j) d = AsksBind k s c j d
 Asks ls k s c (Callr r) d = ⊥
-Asks ls k s c Ret d = Asks-pending k s c d
+Asks ls k s c Ret d = AsksPending k s c d
 Asks ls k s c (Push r) d = ⊥
 Asks ls k s c (Pop r) d = ⊥
 Asks ls k s c (Out r) d = ⊥
 Asks ls k s c (In r) d = ⊥
-Asks ls k s c (Open r j global) d = Asks-by-name ls s c j (λ w. Cpu.Open w r global) d
-Asks ls k s c (Find r a j) d = Asks-by-name ls s c j (λ w. Cpu.Find r a w) d
+Asks ls k s c (Open r j global) d = AsksByName ls s c j (λ w. Cpu.Open w r global) d
+Asks ls k s c (Find r a j) d = AsksByName ls s c j (λ w. Cpu.Find r a w) d
 Asks ls k s c (Close r) d = d ≡ Cpu.asks c (Cpu.Close r)
 Asks ls k s c (End r) d = d ≡ Cpu.asks c (Cpu.End r)
 

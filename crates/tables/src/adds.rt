@@ -1,6 +1,6 @@
 ghost use Rattle.std.specs.Prelude.{◌≡◌};
 ghost use Rattle.text.specs.Readers.{bytes};
-ghost use Rattle.library.specs.Lines.{needs, define, init, fini, cell as cell-item};
+ghost use Rattle.library.specs.Lines.{needs, define, init, fini, cell as cell_item};
 ghost use Rattle.library.specs.Views.{cell_no, definition_of, cell_of};
 ghost use Rattle.tables.specs.Store.{Fits, Wide, Room};
 ghost use Rattle.tables.specs.Steps.{Took};
@@ -56,7 +56,7 @@ impl<'t, 'a> Tables<'t, 'a> {
         requires fits { Fits self.old }
         requires wide { Wide self.old }
         requires room { Room self.old 0 1 }
-        ensures { Took self.old self.new (cell-item (cell_of (bytes self.old.text.now) cell)) }
+        ensures { Took self.old self.new (cell_item (cell_of (bytes self.old.text.now) cell)) }
     {
         let row = cell_row(cell);
         self.cells.push(&row);
