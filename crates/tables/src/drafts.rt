@@ -12,6 +12,9 @@ use library::faults::{BadLine, LineFault};
 use library::types::Item;
 use text::reader::Span;
 
+// A library has at most so many cells.
+const MAX_CELLS: usize = 65535;
+
 impl Draft {
     // With a line that reaches so far.
     fn raised(self, line: usize, reach: u64) -> Draft
@@ -109,7 +112,7 @@ impl<'t, 'a> Tables<'t, 'a> {
     pub fn sized(&self, line: usize, draft: Draft) -> Result<(), BadLine>
         ensures { MatchResult result (λ _. sized line (draft_of (store self.now) draft) ≡ Ok (draft_of (store self.now) draft)) (λ e. sized line (draft_of (store self.now) draft) ≡ Err e) }
     {
-        if self.cells.len.saturating_sub(draft.cells) <= 65535 {
+        if self.cells.len.saturating_sub(draft.cells) <= MAX_CELLS {
             return Ok(());
         }
         Err(BadLine {

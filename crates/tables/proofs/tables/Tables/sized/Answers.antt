@@ -3,8 +3,8 @@ use Rattle.tables.specs.Store.{store}
 use Rattle.tables.proofs.Drafting.{cells_counted, sized_ok, sized_err}
 use Rattle.tables.proofs.tables.Tables.sized.Goals as goal
 
-pub returns-then-saturating_sub-le65535 : goal.returns-then-saturating_sub-le65535
-returns-then-saturating_sub-le65535 c = sized_ok (store c.args.self.now) c.args.draft c.args.line _ _ (cells_counted c.args.self.now) c.saturating_sub.ensures c.if-saturating_sub-le65535.true
+pub returns-then-saturating_sub-le-MAX_CELLS : goal.returns-then-saturating_sub-le-MAX_CELLS
+returns-then-saturating_sub-le-MAX_CELLS c = sized_ok (store c.args.self.now) c.args.draft c.args.line _ _ (cells_counted c.args.self.now) c.saturating_sub.ensures c.if-saturating_sub-le-MAX_CELLS.true
 
 pub returns : goal.returns
-returns c = sized_err (store c.args.self.now) c.args.draft c.args.line _ _ (cells_counted c.args.self.now) c.saturating_sub.ensures (omega (arith, c.if-saturating_sub-le65535.false))
+returns c = sized_err (store c.args.self.now) c.args.draft c.args.line _ _ (cells_counted c.args.self.now) c.saturating_sub.ensures (omega (arith, c.if-saturating_sub-le-MAX_CELLS.false))
