@@ -1,50 +1,51 @@
 -- Choices: one combinator per way of choosing.
+use Rattle.std.specs.Result.{result_ok}
+use Rattle.std.specs.Prelude.{None, Option, Some, cond}
 use Rattle.std.proofs.Common.{◌≡◌, ℕ, Bool, true, false, Ok, Err, Result, refl, ap, arith}
-use mathlib.Core.Option.{Option, some, none}
-use Rattle.base.specs.Choices.{pick, opt, on_some, guard, WhereSome, on_ok, ok_part, WhereOk}
+use Rattle.base.specs.Choices.{opt, on_some, guard, WhereSome, on_ok, WhereOk}
 
-pub some_is : {A : Type 0} {a b : A} → some a ≡ some b → a ≡ b
+pub some_is : {A : Type 0} {a b : A} → Some a ≡ Some b → a ≡ b
 some_is e = cc
 
-pub pick_true : {A : Type 0} (b : Bool) (x y : A) → b ≡ true → pick b x y ≡ x
+pub pick_true : {A : Type 0} (b : Bool) (x y : A) → b ≡ true → cond b x y ≡ x
 pick_true b x y e = rw e
 
-pub pick_false : {A : Type 0} (b : Bool) (x y : A) → b ≡ false → pick b x y ≡ y
+pub pick_false : {A : Type 0} (b : Bool) (x y : A) → b ≡ false → cond b x y ≡ y
 pick_false b x y e = rw e
 
-pub opt_none : {A C : Type 0} (o : Option A) (c : C) (f : A → C) → o ≡ none → opt o c f ≡ c
+pub opt_none : {A C : Type 0} (o : Option A) (c : C) (f : A → C) → o ≡ None → opt o c f ≡ c
 opt_none o c f e = rw e
 
-pub opt_some : {A C : Type 0} (o : Option A) (c : C) (f : A → C) (x : A) → o ≡ some x → opt o c f ≡ f x
+pub opt_some : {A C : Type 0} (o : Option A) (c : C) (f : A → C) (x : A) → o ≡ Some x → opt o c f ≡ f x
 opt_some o c f x e = rw e
 
 -- what was chosen, taken apart
-pub on_some_inv : {A C : Type 0} (o : Option A) (f : A → Option C) (c : C) → on_some o f ≡ some c → (a : A) × (o ≡ some a) × (f a ≡ some c)
-on_some_inv none f c e = let z : ◌≡◌ {A = ℕ} 0 1 = cc in absurd (omega arith)
-on_some_inv (some a) f c e = (a, refl, e)
+pub on_some_inv : {A C : Type 0} (o : Option A) (f : A → Option C) (c : C) → on_some o f ≡ Some c → (a : A) × (o ≡ Some a) × (f a ≡ Some c)
+on_some_inv None f c e = let z : ◌≡◌ {A = ℕ} 0 1 = cc in absurd (omega arith)
+on_some_inv (Some a) f c e = (a, refl, e)
 
-pub guard_inv : {A : Type 0} (b : Bool) (x y : A) → guard b (some x) ≡ some y → (b ≡ true) × (x ≡ y)
+pub guard_inv : {A : Type 0} (b : Bool) (x y : A) → guard b (Some x) ≡ Some y → (b ≡ true) × (x ≡ y)
 guard_inv true x y e = (refl, cc)
 guard_inv false x y e = let z : ◌≡◌ {A = ℕ} 0 1 = cc in absurd (omega arith)
 
-pub none_not_some : {A : Type 0} {a : A} → none ≡ some a → ⊥
+pub none_not_some : {A : Type 0} {a : A} → None ≡ Some a → ⊥
 none_not_some e = let z : ◌≡◌ {A = ℕ} 0 1 = cc in omega arith
 
 -- a statement of the value, one choice after the other
-pub pick_if : {A : Type 0} (P : A → Type 0) (b : Bool) (o p : Option A) → WhereSome P o → WhereSome P p → WhereSome P (pick b o p)
+pub pick_if : {A : Type 0} (P : A → Type 0) (b : Bool) (o p : Option A) → WhereSome P o → WhereSome P p → WhereSome P (cond b o p)
 pick_if P true o p x y = x
 pick_if P false o p x y = y
 
-pub some_if : {A C : Type 0} (P : C → Type 0) (o : Option A) (f : A → Option C) → ((a : A) → o ≡ some a → WhereSome P (f a)) → WhereSome P (on_some o f)
-some_if P none f h = tt
-some_if P (some a) f h = h a refl
+pub some_if : {A C : Type 0} (P : C → Type 0) (o : Option A) (f : A → Option C) → ((a : A) → o ≡ Some a → WhereSome P (f a)) → WhereSome P (on_some o f)
+some_if P None f h = tt
+some_if P (Some a) f h = h a refl
 
 pub guard_if : {A : Type 0} (P : A → Type 0) (b : Bool) (o : Option A) → (b ≡ true → WhereSome P o) → WhereSome P (guard b o)
 guard_if P true o h = h refl
 guard_if P false o h = tt
 
 -- the same for results
-pub pick_ok : {A E : Type 0} (P : A → Type 0) (b : Bool) (r q : Result A E) → WhereOk P r → WhereOk P q → WhereOk P (pick b r q)
+pub pick_ok : {A E : Type 0} (P : A → Type 0) (b : Bool) (r q : Result A E) → WhereOk P r → WhereOk P q → WhereOk P (cond b r q)
 pick_ok P true r q x y = x
 pick_ok P false r q x y = y
 
@@ -52,6 +53,6 @@ pub on_ok_if : {A C E : Type 0} (P : C → Type 0) (r : Result A E) (f : A → R
 on_ok_if P (Ok a) f h = h a refl
 on_ok_if P (Err e) f h = tt
 
-pub ok_part_inv : {A E : Type 0} (r : Result A E) (a : A) → ok_part r ≡ some a → r ≡ Ok a
+pub ok_part_inv : {A E : Type 0} (r : Result A E) (a : A) → result_ok r ≡ Some a → r ≡ Ok a
 ok_part_inv (Ok x) a e = let p : x ≡ a = cc in ap Ok p
 ok_part_inv (Err q) a e = let z : ◌≡◌ {A = ℕ} 0 1 = cc in absurd (omega arith)

@@ -1,6 +1,6 @@
 -- Names: runs of bytes.
+use Rattle.std.specs.List.{list_any, AllByRecursion}
 use Rattle.std.specs.Prelude.{◌≡◌, ℕ, Bool, true, false, ◌&&◌, List, [], ◌∷◌, ◌==◌}
-use Rattle.base.specs.Lists.{any_of, Each}
 
 -- the bytes of a name
 abbrev pub Name : Type 0
@@ -15,7 +15,7 @@ same (x ∷ xs) (y ∷ ys) = x == y && same xs ys
 
 -- whether the name is in the list
 abbrev pub among : Name → List Name → Bool
-among w ws = any_of (same w) ws
+among w ws = list_any (same w) ws
 
 -- no name twice
 abbrev pub Once : List Name → Type 0
@@ -24,4 +24,4 @@ Once (x ∷ xs) = (among x xs ≡ false) × Once xs
 
 -- none of xs is in seen
 abbrev pub Fresh : List Name → List Name → Type 0
-Fresh xs seen = Each (λ x. among x seen ≡ false) xs
+Fresh xs seen = AllByRecursion (λ x. among x seen ≡ false) xs

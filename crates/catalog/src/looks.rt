@@ -1,8 +1,6 @@
-ghost use Rattle.std.specs.Prelude.{◌≡◌, ◌-◌, ◌<◌, min};
-ghost use Rattle.std.proofs.Math.Option.{some};
+ghost use Rattle.std.specs.Prelude.{◌≡◌, ◌-◌, ◌<◌, min, Some, slice_get};
 ghost use Rattle.std.specs.Option.{option_map};
-ghost use Rattle.base.specs.Choices.{found, on_some, over};
-ghost use Rattle.base.specs.Lists.{nth};
+ghost use Rattle.base.specs.Choices.{on_some};
 ghost use Rattle.library.specs.Library.{Library};
 ghost use Rattle.library.specs.Views.{cell_no, definition_of, cell_of};
 ghost use Rattle.tables.specs.Store.{store, libraries};
@@ -24,7 +22,7 @@ impl<'t, 'a> Catalog<'t, 'a> {
     // The row of part j of library i, whose bounds stand in words `at` and `at + 1`.
     fn part(&self, i: usize, at: usize, j: usize) -> Option<usize>
         requires { at < 12 }
-        ensures { found result ≡ part_row (store self.now.parts.tables) i at j }
+        ensures { result ≡ part_row (store self.now.parts.tables) i at j }
     {
         let row = self.parts.tables.libs.row(i)?;
         let start = row[at] as usize;
@@ -37,7 +35,7 @@ impl<'t, 'a> Catalog<'t, 'a> {
 
     // Whether a library looks in itself first.
     pub fn inward(&self, id: LibraryId) -> Option<bool>
-        ensures { found result ≡ on_some (nth (libraries self.now.parts.tables) id.0) (λ (l : Library). some l.inward) }
+        ensures { result ≡ on_some (slice_get (libraries self.now.parts.tables) id.0) (λ (l : Library). Some l.inward) }
     {
         let row = self.parts.tables.libs.row(id.0)?;
         Some(row[2] == 1)
@@ -45,7 +43,7 @@ impl<'t, 'a> Catalog<'t, 'a> {
 
     // How many parts a library has.
     pub fn sizes(&self, id: LibraryId) -> Option<Sizes>
-        ensures { found result ≡ on_some (nth (libraries self.now.parts.tables) id.0) (λ l. some (sizes_of l)) }
+        ensures { result ≡ on_some (slice_get (libraries self.now.parts.tables) id.0) (λ l. Some (sizes_of l)) }
     {
         let row = self.parts.tables.libs.row(id.0)?;
         Some(Sizes {
@@ -59,7 +57,7 @@ impl<'t, 'a> Catalog<'t, 'a> {
 
     // Name j of those that a library needs.
     pub fn need(&self, id: LibraryId, j: usize) -> Option<&'t [u8]>
-        ensures { found (option_map (λ x. x.now) result) ≡ part_at (libraries self.now.parts.tables) id.0 (λ l. l.needs) j }
+        ensures { (option_map (λ x. x.now) result) ≡ part_at (libraries self.now.parts.tables) id.0 (λ l. l.needs) j }
     {
         let k = self.part(id.0, 3, j)?;
         let row = self.parts.tables.needs.row(k)?;
@@ -68,7 +66,7 @@ impl<'t, 'a> Catalog<'t, 'a> {
 
     // Definition j of a library.
     pub fn definition(&self, id: LibraryId, j: usize) -> Option<Definition<&'t [u8]>>
-        ensures { over (definition_of (λ x. x.now)) (found result) ≡ part_at (libraries self.now.parts.tables) id.0 (λ l. l.defs) j }
+        ensures { option_map (definition_of (λ x. x.now)) result ≡ part_at (libraries self.now.parts.tables) id.0 (λ l. l.defs) j }
     {
         let k = self.part(id.0, 5, j)?;
         let row = self.parts.tables.defs.row(k)?;
@@ -77,7 +75,7 @@ impl<'t, 'a> Catalog<'t, 'a> {
 
     // The cell of initializer j of a library.
     pub fn initializer(&self, id: LibraryId, j: usize) -> Option<CellNo>
-        ensures { over cell_no (found result) ≡ part_at (libraries self.now.parts.tables) id.0 (λ l. l.inits) j }
+        ensures { option_map cell_no result ≡ part_at (libraries self.now.parts.tables) id.0 (λ l. l.inits) j }
     {
         let k = self.part(id.0, 7, j)?;
         let row = self.parts.tables.inits.row(k)?;
@@ -86,7 +84,7 @@ impl<'t, 'a> Catalog<'t, 'a> {
 
     // The cell of finalizer j of a library.
     pub fn finalizer(&self, id: LibraryId, j: usize) -> Option<CellNo>
-        ensures { over cell_no (found result) ≡ part_at (libraries self.now.parts.tables) id.0 (λ l. l.finis) j }
+        ensures { option_map cell_no result ≡ part_at (libraries self.now.parts.tables) id.0 (λ l. l.finis) j }
     {
         let k = self.part(id.0, 9, j)?;
         let row = self.parts.tables.finis.row(k)?;
@@ -95,7 +93,7 @@ impl<'t, 'a> Catalog<'t, 'a> {
 
     // Cell j of a library.
     pub fn cell(&self, id: LibraryId, j: usize) -> Option<Cell<&'t [u8]>>
-        ensures { over (cell_of (λ x. x.now)) (found result) ≡ part_at (libraries self.now.parts.tables) id.0 (λ l. l.cells) j }
+        ensures { option_map (cell_of (λ x. x.now)) result ≡ part_at (libraries self.now.parts.tables) id.0 (λ l. l.cells) j }
     {
         let k = self.part(id.0, 11, j)?;
         let row = self.parts.tables.cells.row(k)?;

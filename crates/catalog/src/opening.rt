@@ -1,8 +1,6 @@
-ghost use Rattle.std.specs.Prelude.{◌≡◌, [], length, Some, None, Ok, MatchOption, MatchResult};
-ghost use Rattle.std.proofs.Math.Option.{some, none};
+ghost use Rattle.std.specs.Prelude.{◌≡◌, [], length, Some, None, Ok, MatchOption, MatchResult, slice_get};
 ghost use Rattle.std.specs.Option.{option_map};
-ghost use Rattle.base.specs.Choices.{found, on_some};
-ghost use Rattle.base.specs.Lists.{nth};
+ghost use Rattle.base.specs.Choices.{on_some};
 ghost use Rattle.library.specs.Library.{Library, find_library};
 ghost use Rattle.library.specs.Text.{read};
 ghost use Rattle.tables.specs.Store.{libraries, HasName};
@@ -42,14 +40,14 @@ impl<'t, 'a> Catalog<'t, 'a> {
 
     // The library of a name.
     pub fn find(&self, name: &[u8]) -> Option<LibraryId>
-        ensures { MatchOption result (find_library (libraries self.now.parts.tables) name.now ≡ none) (λ k. HasName (libraries self.now.parts.tables) k.0 name.now) }
+        ensures { MatchOption result (find_library (libraries self.now.parts.tables) name.now ≡ None) (λ k. HasName (libraries self.now.parts.tables) k.0 name.now) }
     {
         self.parts.tables.find(&self.parts.names, name)
     }
 
     // The name of a library.
     pub fn name(&self, id: LibraryId) -> Option<&'t [u8]>
-        ensures { found (option_map (λ x. x.now) result) ≡ on_some (nth (libraries self.now.parts.tables) id.0) (λ (l : Library). some l.name) }
+        ensures { (option_map (λ x. x.now) result) ≡ on_some (slice_get (libraries self.now.parts.tables) id.0) (λ (l : Library). Some l.name) }
     {
         self.parts.tables.name(id.0)
     }

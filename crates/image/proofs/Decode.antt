@@ -1,10 +1,10 @@
 -- What was put into a word is read from it.
+use Rattle.std.specs.Option.{option_map}
+use Rattle.std.specs.Prelude.{Some}
 use mathlib.Core.Bool.{true, false}
-use mathlib.Core.Option.{some}
 use mathlib.Core.Path.{◌≡◌, refl, ap, ◌∙◌}
 use Prim.Native.Nat.{ℕ, ◌+◌, ◌/◌, ◌%◌, ◌<◌}
 use native.Mathlib.Omega.{arith}
-use Rattle.base.specs.Choices.{over, found}
 use Rattle.library.specs.Library.{Instruction, Set, Get, Sto, Own, Add, Sub, Mul, Less, Same, Move, Jump, If0, Call, Callr, Ret, Push, Pop, Out, In, Open, Find, Close, End}
 use Rattle.library.specs.Fine.{Fine}
 use Rattle.processor.specs.Cpu.{Parts, parts, wide}
@@ -81,31 +81,31 @@ cell_back : (k me : ℕ) → k < 65536 → me < wide → cell_behind me (apart k
 unfolding apart
 cell_back k me h l = omega arith
 
-kind_back : (p : Instruction) (me : ℕ) → Fine p → me < wide → over (instruction_at me) (found (kind (fields p me))) ≡ some p
+kind_back : (p : Instruction) (me : ℕ) → Fine p → me < wide → option_map (instruction_at me) ((kind (fields p me))) ≡ Some p
 kind_back (Set r n) me h l = refl
 kind_back (Get r s n) me h l = refl
 kind_back (Sto r n s) me h l = refl
-kind_back (Own r k) me h l = ap (λ x. some (Own r x)) (cell_back k me h.1 l)
+kind_back (Own r k) me h l = ap (λ x. Some (Own r x)) (cell_back k me h.1 l)
 kind_back (Add r s t) me h l = refl
 kind_back (Sub r s t) me h l = refl
 kind_back (Mul r s t) me h l = refl
 kind_back (Less r s t) me h l = refl
 kind_back (Same r s t) me h l = refl
 kind_back (Move r s) me h l = refl
-kind_back (Jump k) me h l = ap (λ x. some (Jump x)) (cell_back k me h l)
-kind_back (If0 r k) me h l = ap (λ x. some (If0 r x)) (cell_back k me h.1 l)
-kind_back (Call k) me h l = ap (λ x. some (Call x)) (cell_back k me h l)
+kind_back (Jump k) me h l = ap (λ x. Some (Jump x)) (cell_back k me h l)
+kind_back (If0 r k) me h l = ap (λ x. Some (If0 r x)) (cell_back k me h.1 l)
+kind_back (Call k) me h l = ap (λ x. Some (Call x)) (cell_back k me h l)
 kind_back (Callr r) me h l = refl
 kind_back Ret me h l = refl
 kind_back (Push r) me h l = refl
 kind_back (Pop r) me h l = refl
 kind_back (Out r) me h l = refl
 kind_back (In r) me h l = refl
-kind_back (Open r k true) me h l = ap (λ x. some (Open r x true)) (cell_back k me h.1 l)
-kind_back (Open r k false) me h l = ap (λ x. some (Open r x false)) (cell_back k me h.1 l)
-kind_back (Find r s k) me h l = ap (λ x. some (Find r s x)) (cell_back k me h.2 l)
+kind_back (Open r k true) me h l = ap (λ x. Some (Open r x true)) (cell_back k me h.1 l)
+kind_back (Open r k false) me h l = ap (λ x. Some (Open r x false)) (cell_back k me h.1 l)
+kind_back (Find r s k) me h l = ap (λ x. Some (Find r s x)) (cell_back k me h.2 l)
 kind_back (Close r) me h l = refl
 kind_back (End r) me h l = refl
 
 pub decodes : Decodes
-decodes = record { fields_back = fields_back; instruction_back = λ p me h l. ap (λ q. over (instruction_at me) (found (kind q))) (fields_back p me h) ∙ kind_back p me h l }
+decodes = record { fields_back = fields_back; instruction_back = λ p me h l. ap (λ q. option_map (instruction_at me) ((kind q))) (fields_back p me h) ∙ kind_back p me h l }

@@ -1,7 +1,6 @@
 -- The word of an instruction at its own cell, and the instruction that such a word is.
-use Rattle.std.proofs.Math.Option.{some}
-use Rattle.std.specs.Prelude.{◌≡◌, ℕ, ◌+◌, ◌-◌, ◌*◌, ◌%◌, ◌<◌}
-use Rattle.base.specs.Choices.{pick, over, found}
+use Rattle.std.specs.Option.{option_map}
+use Rattle.std.specs.Prelude.{◌≡◌, ℕ, ◌+◌, ◌-◌, ◌*◌, ◌%◌, ◌<◌, Some, cond}
 use Rattle.library.specs.Library.{Instruction, Set, Get, Sto, Own, Add, Sub, Mul, Less, Same, Move, Jump, If0, Call, Callr, Ret, Push, Pop, Out, In, Open, Find, Close, End}
 use Rattle.library.specs.Fine.{Fine}
 use Rattle.processor.specs.Cpu.{Parts, parts, wide}
@@ -38,7 +37,7 @@ fields (Push r) me = record { o = 16; r = r; a = 0; b = 0; k = 0 }
 fields (Pop r) me = record { o = 17; r = r; a = 0; b = 0; k = 0 }
 fields (Out r) me = record { o = 18; r = r; a = 0; b = 0; k = 0 }
 fields (In r) me = record { o = 19; r = r; a = 0; b = 0; k = 0 }
-fields (Open r k global) me = record { o = 20; r = r; a = pick global 1 0; b = 0; k = apart k me }
+fields (Open r k global) me = record { o = 20; r = r; a = cond global 1 0; b = 0; k = apart k me }
 fields (Find r s k) me = record { o = 21; r = r; a = s; b = 0; k = apart k me }
 fields (Close r) me = record { o = 22; r = r; a = 0; b = 0; k = 0 }
 fields (End r) me = record { o = 23; r = r; a = 0; b = 0; k = 0 }
@@ -80,4 +79,4 @@ instruction_at me (operation.End r) = End r
 -- the processor reads from a word the fields that were put into it, and decodes it to the same instruction
 pub record Decodes : Type 0 where
   pub fields_back : (p : Instruction) (me : ℕ) → Fine p → parts (encode p me) ≡ fields p me
-  pub instruction_back : (p : Instruction) (me : ℕ) → Fine p → me < wide → over (instruction_at me) (found (decoded (encode p me))) ≡ some p
+  pub instruction_back : (p : Instruction) (me : ℕ) → Fine p → me < wide → option_map (instruction_at me) ((decoded (encode p me))) ≡ Some p

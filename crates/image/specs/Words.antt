@@ -1,6 +1,5 @@
 -- The words that a library's cells begin with.
-use Rattle.std.specs.Prelude.{List, [], ◌∷◌, ℕ, suc, ◌+◌, ◌%◌}
-use Rattle.std.proofs.Math.Option.{Option}
+use Rattle.std.specs.Prelude.{List, [], ◌∷◌, ℕ, suc, ◌+◌, ◌%◌, Option}
 use Rattle.base.specs.Choices.{opt}
 use Rattle.library.specs.Library.{Cell, number, ref, at, slot, named, instruction}
 use Rattle.processor.specs.Cpu.{all}

@@ -2,7 +2,6 @@
 #![tactic(auto)]
 
 ghost use Rattle.std.specs.Prelude.{◌≡◌};
-ghost use Rattle.base.specs.Choices.{found};
 ghost use Rattle.base.specs.Names.{Name};
 ghost use Rattle.library.specs.Views.{cell_no, instruction_of, cell_of};
 ghost use Rattle.image.specs.Encode.{encode, pack, apart, Decodes};
@@ -80,7 +79,7 @@ pub fn word_of(instruction: Instruction, me: CellNo) -> u64
 
 // The word that a cell begins with.
 pub fn cell_word<N: Drop>(cell: Cell<N>, site: Site) -> u64
-    ensures { (f : N → Name) → result ≡ first_word (found site.definition) site.base site.counted (cell_no site.cell) (cell_of f cell) }
+    ensures { (f : N → Name) → result ≡ first_word site.definition site.base site.counted (cell_no site.cell) (cell_of f cell) }
 {
     match cell {
         Cell::Number(n) => n as u64,

@@ -1,5 +1,4 @@
 ghost use Rattle.std.specs.Prelude.{◌≡◌};
-ghost use Rattle.base.specs.Choices.{found};
 ghost use Rattle.library.specs.Lines.{keyed, data_opcodes, flow_opcodes, link_opcodes, opcode_of};
 
 use library::types::{Arithmetic, Opcode, Unary};
@@ -7,7 +6,7 @@ use text::words::is;
 
 // Instructions on values and memory.
 fn data_opcode(keyword: &[u8]) -> Option<Opcode>
-    ensures { found result ≡ keyed data_opcodes keyword.now }
+    ensures { result ≡ keyed data_opcodes keyword.now }
 {
     if is(keyword, b"set") {
         return Some(Opcode::Set);
@@ -44,7 +43,7 @@ fn data_opcode(keyword: &[u8]) -> Option<Opcode>
 
 // Instructions on where it goes on, and on what was pushed.
 fn flow_opcode(keyword: &[u8]) -> Option<Opcode>
-    ensures { found result ≡ keyed flow_opcodes keyword.now }
+    ensures { result ≡ keyed flow_opcodes keyword.now }
 {
     if is(keyword, b"jump") {
         return Some(Opcode::Jump);
@@ -72,7 +71,7 @@ fn flow_opcode(keyword: &[u8]) -> Option<Opcode>
 
 // Instructions on what is shown, read, opened and ended.
 fn link_opcode(keyword: &[u8]) -> Option<Opcode>
-    ensures { found result ≡ keyed link_opcodes keyword.now }
+    ensures { result ≡ keyed link_opcodes keyword.now }
 {
     if is(keyword, b"out") {
         return Some(Opcode::Unary(Unary::Out));
@@ -97,7 +96,7 @@ fn link_opcode(keyword: &[u8]) -> Option<Opcode>
 
 // The instruction whose keyword a word is.
 pub fn opcode(keyword: &[u8]) -> Option<Opcode>
-    ensures { found result ≡ opcode_of keyword.now }
+    ensures { result ≡ opcode_of keyword.now }
 {
     if let Some(op) = data_opcode(keyword) {
         return Some(op);

@@ -1,20 +1,20 @@
 -- The newest entry of a bucket, and the words that have it.
+use Rattle.std.specs.Prelude.{cond}
 use Rattle.std.proofs.Common.{◌≡◌, ℕ, zero, suc, ◌+◌, ◌-◌, ◌*◌, ◌%◌, ◌<◌, ◌≤◌, true, false, eqb, ◌≢◌, List, [], ◌∷◌, ◌++◌, length, get_or, drop, set, sym, refl, ap, ◌∙◌, ⊎_elim, add-one, arith, below_more}
-use Rattle.base.specs.Choices.{pick}
 use Rattle.base.specs.Names.{Name}
 use Rattle.lent.specs.Indexes.{hash, entry_of, newest, Indexed, IsNewest}
 use Rattle.std.proofs.lemmas.List.{get_or_append_left, get_or_push, get_or-set_same, get_or-set_other, length-set, at_drop_more, at_drop_all}
 use Rattle.std.proofs.lemmas.Bool.{eq-eqb, ne_eqb, cases_eq}
 
 newest_at : (bs : List ℕ) (h n : ℕ) → get_or bs n 0 ≡ h → newest bs h (suc n) ≡ suc n
-newest_at bs h n e = ap (λ b. pick b (suc n) (newest bs h n)) (eq-eqb (get_or bs n 0) h e)
+newest_at bs h n e = ap (λ b. cond b (suc n) (newest bs h n)) (eq-eqb (get_or bs n 0) h e)
 
 newest_off : (bs : List ℕ) (h n : ℕ) → (get_or bs n 0 ≡ h → ⊥) → newest bs h (suc n) ≡ newest bs h n
-newest_off bs h n e = ap (λ b. pick b (suc n) (newest bs h n)) (ne_eqb (get_or bs n 0) h e)
+newest_off bs h n e = ap (λ b. cond b (suc n) (newest bs h n)) (ne_eqb (get_or bs n 0) h e)
 
 pub newest_le : (bs : List ℕ) (h n : ℕ) → newest bs h n ≤ n
 newest_le bs h zero = omega arith
-newest_le bs h (suc n) = elim (eqb (get_or bs n 0) h) as (λ b. pick b (suc n) (newest bs h n) ≤ suc n) [ true ↦ omega arith | false ↦ (let l = newest_le bs h n in omega arith) ]
+newest_le bs h (suc n) = elim (eqb (get_or bs n 0) h) as (λ b. cond b (suc n) (newest bs h n) ≤ suc n) [ true ↦ omega arith | false ↦ (let l = newest_le bs h n in omega arith) ]
 
 -- no entry past the newest is in the bucket
 pub newest_skips : (bs : List ℕ) (h n k : ℕ) → newest bs h n ≤ k → k < n → get_or bs k 0 ≡ h → ⊥
@@ -25,7 +25,7 @@ newest_skips bs h (suc n) k l m e = ⊎_elim
     (cases_eq k n)
   where
     newest_grows : newest bs h n ≤ newest bs h (suc n)
-    newest_grows = elim (eqb (get_or bs n 0) h) as (λ b. newest bs h n ≤ pick b (suc n) (newest bs h n)) [ true ↦ (let l = newest_le bs h n in omega arith) | false ↦ omega arith ]
+    newest_grows = elim (eqb (get_or bs n 0) h) as (λ b. newest bs h n ≤ cond b (suc n) (newest bs h n)) [ true ↦ (let l = newest_le bs h n in omega arith) | false ↦ omega arith ]
 
 -- and the newest is
 pub newest_in : (bs : List ℕ) (h n : ℕ) → 0 < newest bs h n → get_or bs (newest bs h n - 1) 0 ≡ h
@@ -49,7 +49,7 @@ newest_like bs cs h zero f = refl
 newest_like bs cs h (suc n) f =
     let e = f n (omega arith) in
     let r = newest_like bs cs h n (λ k l. f k (omega arith)) in
-    λ i. pick (eqb (e i) h) (suc n) (r i)
+    λ i. cond (eqb (e i) h) (suc n) (r i)
 
 pub indexed_like : (hs ns bs cs : List ℕ) (n : ℕ) → ((k : ℕ) → k < n → get_or bs k 0 ≡ get_or cs k 0) → Indexed hs ns bs n → Indexed hs ns cs n
 indexed_like hs ns bs cs n f x = record {

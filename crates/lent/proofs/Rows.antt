@@ -1,9 +1,8 @@
 -- Rows of a fixed width: how many there are, one read, one written, one more.
+use Rattle.std.specs.Prelude.{None, Some, slice_get, slice_set}
 use borrow.Rule.Slice.PartMut.{put_mid}
 use Rattle.std.proofs.Common.{◌≡◌, ℕ, zero, suc, ◌+◌, ◌-◌, ◌*◌, ◌<◌, ◌≤◌, min, ◌≢◌, List, [], ◌∷◌, ◌++◌, length, get_or, take, drop, set, sym, refl, ap, ◌∙◌, ⊎_elim, mul-le-mul_left, mul-one, mul-add, arith}
-use mathlib.Core.Option.{some, none}
 use Rattle.base.proofs.Lists.{put-set, get_or-nth}
-use Rattle.base.specs.Lists.{nth, put}
 use Rattle.lent.specs.Tables.{row_at, rows_of}
 use Rattle.std.proofs.lemmas.List.FromFn.{length-map-range_with_len, get_or-map-range_with_len, take-map-range_with_len, map-range_with_len_more, fill_by_all}
 use Rattle.std.proofs.lemmas.List.Edits.{length-between}
@@ -28,13 +27,13 @@ pub rows_get : (w : ℕ) (ws : List ℕ) (n i : ℕ) → i < n → get_or (rows_
 unfolding rows_of
 rows_get w ws n i h = get_or-map-range_with_len (row_at w ws) 0 n i i [] h (omega arith)
 
-pub rows_nth : (w : ℕ) (ws : List ℕ) (n i : ℕ) → i < n → nth (rows_of w ws n) i ≡ some (row_at w ws i)
-rows_nth w ws n i h = let l = rows_len w ws n in get_or-nth (rows_of w ws n) i [] (omega arith) ∙ ap some (rows_get w ws n i h)
+pub rows_nth : (w : ℕ) (ws : List ℕ) (n i : ℕ) → i < n → slice_get (rows_of w ws n) i ≡ Some (row_at w ws i)
+rows_nth w ws n i h = let l = rows_len w ws n in get_or-nth (rows_of w ws n) i [] (omega arith) ∙ ap Some (rows_get w ws n i h)
 
-pub rows_past : (w : ℕ) (ws : List ℕ) (n i : ℕ) → n ≤ i → nth (rows_of w ws n) i ≡ none
+pub rows_past : (w : ℕ) (ws : List ℕ) (n i : ℕ) → n ≤ i → slice_get (rows_of w ws n) i ≡ None
 rows_past w ws n i h = let l = rows_len w ws n in past (rows_of w ws n) i (omega arith)
   where
-    past : {A : Type 0} (xs : List A) (i : ℕ) → length xs ≤ i → nth xs i ≡ none
+    past : {A : Type 0} (xs : List A) (i : ℕ) → length xs ≤ i → slice_get xs i ≡ None
     past [] i h = refl
     past (x ∷ xs) zero h = absurd (omega arith)
     past (x ∷ xs) (suc i) h = past xs i (omega arith)
@@ -69,7 +68,7 @@ rows_push w ws x n k h l e =
     let a : rows_of w v n ≡ rows_of w ws n = fill_by_all f (rows_of w v n) n [] (rows_len w v n) (λ j b. rows_get w v n j b ∙ row_other w ws x n k j h l e (omega arith)) in
     map-range_with_len_more (row_at w v) 0 n n (omega arith) ∙ ap (λ u. u ++ row_at w v n ∷ []) a ∙ ap (λ u. rows_of w ws n ++ u ∷ []) (row_same w ws x n k h l)
 
-pub rows_put : (w : ℕ) (ws x : List ℕ) (n i k : ℕ) → i < n → w * i ≤ length ws → length x ≡ w → k ≡ w → rows_of w (put_mid (w * i) k ws x) n ≡ put (rows_of w ws n) i x
+pub rows_put : (w : ℕ) (ws x : List ℕ) (n i k : ℕ) → i < n → w * i ≤ length ws → length x ≡ w → k ≡ w → rows_of w (put_mid (w * i) k ws x) n ≡ slice_set (rows_of w ws n) i x
 unfolding rows_of
 rows_put w ws x n i k b h l e =
     let v = put_mid (w * i) k ws x in
@@ -81,7 +80,7 @@ rows_put w ws x n i k b h l e =
     (cases_eq j i) in
     sym (fill_by_all (row_at w v) (set rs i x) n [] (length-set rs i x ∙ m) at) ∙ sym (put-set rs i x)
 
-pub rows_put_past : (w : ℕ) (ws x : List ℕ) (n i : ℕ) → n ≤ i → put (rows_of w ws n) i x ≡ rows_of w ws n
+pub rows_put_past : (w : ℕ) (ws x : List ℕ) (n i : ℕ) → n ≤ i → slice_set (rows_of w ws n) i x ≡ rows_of w ws n
 rows_put_past w ws x n i h = let l = rows_len w ws n in put-set (rows_of w ws n) i x ∙ set_past (rows_of w ws n) i x (omega arith)
 
 pub rows_take : (w : ℕ) (ws : List ℕ) (n m : ℕ) → rows_of w ws (min n m) ≡ take m (rows_of w ws n)

@@ -1,7 +1,5 @@
 -- Entries by bucket, each bucket from its newest entry to its oldest.
-use Rattle.std.specs.Prelude.{◌≡◌, ℕ, zero, suc, ◌+◌, ◌*◌, ◌%◌, ◌<◌, List, [], ◌∷◌, length, ◌==◌, ◌≢◌, slice_index}
-use Rattle.std.proofs.Math.Option.{Option, some, none}
-use Rattle.base.specs.Choices.{pick}
+use Rattle.std.specs.Prelude.{◌≡◌, ℕ, zero, suc, ◌+◌, ◌*◌, ◌%◌, ◌<◌, List, [], ◌∷◌, length, ◌==◌, ◌≢◌, slice_index, None, Option, Some, cond}
 use Rattle.base.specs.Names.{Name}
 use Rattle.lent.specs.declared.index.Index.{Index}
 
@@ -12,17 +10,17 @@ hash h (c ∷ cs) = hash ((h * 31 + c) % 4294967296) cs
 
 -- the bucket of a name, of count buckets; 0 where there are none
 abbrev pub bucket_of : Name → ℕ → ℕ
-bucket_of w count = pick (count == 0) 0 (hash 7 w % count)
+bucket_of w count = cond (count == 0) 0 (hash 7 w % count)
 
 -- the entry that a word stands for: one less, and none at 0
 abbrev pub entry_of : ℕ → Option ℕ
-entry_of zero = none
-entry_of (suc e) = some e
+entry_of zero = None
+entry_of (suc e) = Some e
 
 -- the word for the newest of the first n entries in bucket h, where bs has the bucket of each entry
 abbrev pub newest : List ℕ → ℕ → ℕ → ℕ
 newest bs h zero = 0
-newest bs h (suc n) = pick (slice_index bs n == h) (suc n) (newest bs h n)
+newest bs h (suc n) = cond (slice_index bs n == h) (suc n) (newest bs h n)
 
 -- the words have the newest of the first n entries for each bucket, and the next older one for each entry
 pub record Indexed (heads next bs : List ℕ) (n : ℕ) : Type 0 where
@@ -35,5 +33,5 @@ Holds x bs n = Indexed x.heads.now x.next.now bs n
 
 -- of the first n entries, the newest in bucket h; none where there is none in it
 abbrev pub IsNewest : List ℕ → ℕ → ℕ → Option ℕ → Type 0
-IsNewest bs h n none = (k : ℕ) → k < n → slice_index bs k ≢ h
-IsNewest bs h n (some e) = (e < n) × (slice_index bs e ≡ h) × ((k : ℕ) → e < k → k < n → slice_index bs k ≢ h)
+IsNewest bs h n None = (k : ℕ) → k < n → slice_index bs k ≢ h
+IsNewest bs h n (Some e) = (e < n) × (slice_index bs e ≡ h) × ((k : ℕ) → e < k → k < n → slice_index bs k ≢ h)

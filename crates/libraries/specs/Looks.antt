@@ -1,8 +1,7 @@
 -- Parts of the libraries, one by one.
-use Rattle.std.specs.Prelude.{ℕ, suc, List, [], ◌∷◌, length}
-use Rattle.std.proofs.Math.Option.{Option, some, none}
-use Rattle.base.specs.Choices.{pick, on_some, over}
-use Rattle.base.specs.Lists.{nth}
+use Rattle.std.specs.Option.{option_map}
+use Rattle.std.specs.Prelude.{ℕ, suc, List, [], ◌∷◌, length, None, Option, Some, cond, slice_get}
+use Rattle.base.specs.Choices.{on_some}
 use Rattle.base.specs.Names.{Name, same}
 use Rattle.library.specs.Library.{Library}
 use Rattle.library.specs.declared.types.LibraryId.{LibraryId}
@@ -14,16 +13,16 @@ library_no k = k.0
 
 -- the number of the first library of a name
 abbrev pub number_of : List Library → Name → Option ℕ
-number_of [] x = none
-number_of (l ∷ ls) x = pick (same l.name x) (some 0) (over suc (number_of ls x))
+number_of [] x = None
+number_of (l ∷ ls) x = cond (same l.name x) (Some 0) (option_map suc (number_of ls x))
 
 -- what f says of library i
 abbrev pub field_at : {X : Type 0} → List Library → ℕ → (Library → X) → Option X
-field_at ls i f = over f (nth ls i)
+field_at ls i f = option_map f (slice_get ls i)
 
 -- part j of library i, of the parts that f has
 abbrev pub part_at : {X : Type 0} → List Library → ℕ → (Library → List X) → ℕ → Option X
-part_at ls i f j = on_some (nth ls i) (λ l. nth (f l) j)
+part_at ls i f j = on_some (slice_get ls i) (λ l. slice_get (f l) j)
 
 -- how many parts a library has
 abbrev pub sizes_of : Library → Sizes

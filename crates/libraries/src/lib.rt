@@ -3,7 +3,6 @@
 
 ghost use Rattle.std.specs.Prelude.{◌≡◌, List, length};
 ghost use Rattle.std.specs.Option.{option_map};
-ghost use Rattle.base.specs.Choices.{found, over};
 ghost use Rattle.library.specs.Library.{Library};
 ghost use Rattle.library.specs.Views.{cell_no, definition_of, cell_of};
 ghost use Rattle.libraries.specs.Looks.{library_no, number_of, part_at, field_at, sizes_of};
@@ -23,37 +22,37 @@ pub trait Libraries {
 
     // The library of a name.
     fn find(&self, name: &[u8]) -> Option<LibraryId>
-        ensures { over library_no (found result) ≡ number_of (libs self.now) name.now };
+        ensures { option_map library_no result ≡ number_of (libs self.now) name.now };
 
     // The name of a library.
     fn name(&self, id: LibraryId) -> Option<&[u8]>
-        ensures { found (option_map (λ x. x.now) result) ≡ field_at (libs self.now) id.0 (λ l. l.name) };
+        ensures { (option_map (λ x. x.now) result) ≡ field_at (libs self.now) id.0 (λ l. l.name) };
 
     // Whether a library looks in itself first.
     fn inward(&self, id: LibraryId) -> Option<bool>
-        ensures { found result ≡ field_at (libs self.now) id.0 (λ l. l.inward) };
+        ensures { result ≡ field_at (libs self.now) id.0 (λ l. l.inward) };
 
     // How many parts a library has.
     fn sizes(&self, id: LibraryId) -> Option<Sizes>
-        ensures { found result ≡ field_at (libs self.now) id.0 sizes_of };
+        ensures { result ≡ field_at (libs self.now) id.0 sizes_of };
 
     // Name j of those that a library needs.
     fn need(&self, id: LibraryId, j: usize) -> Option<&[u8]>
-        ensures { found (option_map (λ x. x.now) result) ≡ part_at (libs self.now) id.0 (λ l. l.needs) j };
+        ensures { (option_map (λ x. x.now) result) ≡ part_at (libs self.now) id.0 (λ l. l.needs) j };
 
     // Definition j of a library.
     fn definition(&self, id: LibraryId, j: usize) -> Option<Definition<&[u8]>>
-        ensures { over (definition_of (λ x. x.now)) (found result) ≡ part_at (libs self.now) id.0 (λ l. l.defs) j };
+        ensures { option_map (definition_of (λ x. x.now)) result ≡ part_at (libs self.now) id.0 (λ l. l.defs) j };
 
     // The cell of initializer j of a library.
     fn initializer(&self, id: LibraryId, j: usize) -> Option<CellNo>
-        ensures { over cell_no (found result) ≡ part_at (libs self.now) id.0 (λ l. l.inits) j };
+        ensures { option_map cell_no result ≡ part_at (libs self.now) id.0 (λ l. l.inits) j };
 
     // The cell of finalizer j of a library.
     fn finalizer(&self, id: LibraryId, j: usize) -> Option<CellNo>
-        ensures { over cell_no (found result) ≡ part_at (libs self.now) id.0 (λ l. l.finis) j };
+        ensures { option_map cell_no result ≡ part_at (libs self.now) id.0 (λ l. l.finis) j };
 
     // Cell j of a library.
     fn cell(&self, id: LibraryId, j: usize) -> Option<Cell<&[u8]>>
-        ensures { over (cell_of (λ x. x.now)) (found result) ≡ part_at (libs self.now) id.0 (λ l. l.cells) j };
+        ensures { option_map (cell_of (λ x. x.now)) result ≡ part_at (libs self.now) id.0 (λ l. l.cells) j };
 }

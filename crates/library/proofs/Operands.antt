@@ -1,6 +1,6 @@
 -- Registers, numbers and cells that a line names are in range.
+use Rattle.std.specs.Prelude.{None, Option, Some}
 use Rattle.std.proofs.Common.{◌≡◌, ℕ, ◌<◌, Bool, true, false, ltb, List, [], ◌∷◌, Ok, Err, refl, subst, arith}
-use mathlib.Core.Option.{Option, some, none}
 use Rattle.base.specs.Choices.{opt, on_some, guard, on_ok, WhereOk}
 use Rattle.base.specs.Names.{Name, same}
 use Rattle.base.proofs.Choices.{pick_ok, on_ok_if}
@@ -32,24 +32,24 @@ end_all : {C : Type 0} (P : C → Type 0) (c : C) (ws : List Name) → P c → W
 end_all P c [] p = p
 end_all P c (w ∷ ws) p = tt
 
-below_lt : (m : ℕ) (w : Name) (n : ℕ) → below m w ≡ some n → n < m
+below_lt : (m : ℕ) (w : Name) (n : ℕ) → below m w ≡ Some n → n < m
 below_lt m [] n e = let z : ◌≡◌ {A = ℕ} 0 1 = cc in absurd (omega arith)
 below_lt m (c ∷ cs) n e = go (digits 0 (c ∷ cs)) e
   where
-    test : (a : ℕ) (b : Bool) → ltb a m ≡ b → guard b (some a) ≡ some n → n < m
+    test : (a : ℕ) (b : Bool) → ltb a m ≡ b → guard b (Some a) ≡ Some n → n < m
     test a true q e = let r : a ≡ n = cc in omega (arith, ltb-true a m q)
     test a false q e = let z : ◌≡◌ {A = ℕ} 0 1 = cc in absurd (omega arith)
 
-    go : (o : Option ℕ) → on_some o (λ n. guard (ltb n m) (some n)) ≡ some n → n < m
-    go none e = let z : ◌≡◌ {A = ℕ} 0 1 = cc in absurd (omega arith)
-    go (some a) e = test a (ltb a m) refl e
+    go : (o : Option ℕ) → on_some o (λ n. guard (ltb n m) (Some n)) ≡ Some n → n < m
+    go None e = let z : ◌≡◌ {A = ℕ} 0 1 = cc in absurd (omega arith)
+    go (Some a) e = test a (ltb a m) refl e
 
 number_lt : (f : LineFault) (m : ℕ) (w : Name) (n : ℕ) → number_below f m w ≡ Ok n → n < m
 number_lt f m w n e = go (below m w) refl e
   where
     go : (o : Option ℕ) → below m w ≡ o → opt o (Err f) Ok ≡ Ok n → n < m
-    go none q r = let z : ◌≡◌ {A = ℕ} 0 1 = cc in absurd (omega arith)
-    go (some a) q r = let p : a ≡ n = cc in rw p at (below_lt m w a q)
+    go None q r = let z : ◌≡◌ {A = ℕ} 0 1 = cc in absurd (omega arith)
+    go (Some a) q r = let p : a ≡ n = cc in rw p at (below_lt m w a q)
 
 module _ {C : Type 0} (P : C → Type 0) (ws : List Name) where
   reg_all : (g : ℕ → List Name → Read C) → ((a : ℕ) (us : List Name) → a < 8 → WhereOk P (g a us)) → WhereOk P (then a_register ws g)
@@ -102,8 +102,8 @@ instruction_fine : (w : Name) (ws : List Name) → WhereOk Fine (instruction_lin
 instruction_fine w ws = go (opcode_of w)
   where
     go : (o : Option Opcode) → WhereOk Fine (opt o (Err UnknownKeyword) (λ k. operands k ws))
-    go none = tt
-    go (some k) = operands_fine k ws
+    go None = tt
+    go (Some k) = operands_fine k ws
 
 -- a cell, where there are as many cells as it names
 abbrev CellOwn : Cell → Type 0

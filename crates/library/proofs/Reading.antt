@@ -1,8 +1,8 @@
 -- Registers, numbers and cells of the libraries that a text gives are in range.
+use Rattle.std.specs.List.{AllByRecursion}
+use Rattle.std.specs.Prelude.{None, Option, Some, cond}
 use Rattle.std.proofs.Common.{◌≡◌, ℕ, suc, ◌<◌, ◌≤◌, Bool, true, false, eqb, ltb, leb, List, [], ◌∷◌, ◌++◌, map, length, Ok, Err, refl, subst, arith}
-use mathlib.Core.Option.{Option, some, none}
-use Rattle.base.specs.Choices.{pick, opt, on_ok, WhereSome, WhereOk}
-use Rattle.base.specs.Lists.{Each}
+use Rattle.base.specs.Choices.{opt, on_ok, WhereSome, WhereOk}
 use Rattle.base.specs.Names.{Name, same}
 use Rattle.base.proofs.Choices.{pick_ok, on_ok_if, ok_part_inv}
 use Rattle.base.proofs.Lists.{each_push, each_like}
@@ -18,10 +18,10 @@ use Rattle.std.proofs.lemmas.Bool.{ltb-true, ltb-false, leb-true}
 
 -- a library whose lines name cells below z
 record Under (z : ℕ) (l : Library) : Type 0 where
-  pub cells : Each (CellFine z) l.cells
-  pub defs : Each (λ d. d.cell < z) l.defs
-  pub inits : Each (λ j. j < z) l.inits
-  pub finis : Each (λ j. j < z) l.finis
+  pub cells : AllByRecursion (CellFine z) l.cells
+  pub defs : AllByRecursion (λ d. d.cell < z) l.defs
+  pub inits : AllByRecursion (λ j. j < z) l.inits
+  pub finis : AllByRecursion (λ j. j < z) l.finis
 
 cell_more : (y z : ℕ) → y ≤ z → (c : Cell) → CellFine y c → CellFine z c
 cell_more y z h (number n) p = p
@@ -62,32 +62,32 @@ record DraftFine (d : Draft) : Type 0 where
 named_drafted : (n : ℕ) (d : Draft) (i : Item) → Named d → ItemOwn i → Named (drafted n d i)
 named_drafted n d i u p = go (ltb d.top (item_reach i)) refl
   where
-    go : (b : Bool) → ltb d.top (item_reach i) ≡ b → Named (pick b (record { library = apply d.library i; top = item_reach i; top_line = n }) (with_library d (apply d.library i)))
+    go : (b : Bool) → ltb d.top (item_reach i) ≡ b → Named (cond b (record { library = apply d.library i; top = item_reach i; top_line = n }) (with_library d (apply d.library i)))
     go true e = under_apply (item_reach i) d.library i (under_more d.top (item_reach i) d.library (omega (arith, ltb-true d.top (item_reach i) e)) u) p
     go false e = under_apply d.top d.library i u (item_more (item_reach i) d.top (omega (arith, ltb-false d.top (item_reach i) e)) i p)
 
 record ProgressFine (p : Progress) : Type 0 where
-  pub done : Each LibraryFine p.done
+  pub done : AllByRecursion LibraryFine p.done
   pub draft : WhereSome DraftFine p.draft
 
 checked_fine : (d : Draft) → DraftFine d → WhereOk LibraryFine (checked d)
 checked_fine d f = go (leb d.top (length d.library.cells)) refl
   where
-    go : (b : Bool) → leb d.top (length d.library.cells) ≡ b → WhereOk LibraryFine (pick b (Ok d.library) (Err (bad d.top_line NoSuchCell)))
+    go : (b : Bool) → leb d.top (length d.library.cells) ≡ b → WhereOk LibraryFine (cond b (Ok d.library) (Err (bad d.top_line NoSuchCell)))
     go true e = let u = under_more d.top (length d.library.cells) d.library (leb-true _ _ e) f.under in record { cells = u.cells; small = f.small; defs = u.defs; inits = u.inits; finis = u.finis }
     go false e = tt
 
-finished_fine : (p : Progress) → ProgressFine p → WhereOk (Each LibraryFine) (finished p)
+finished_fine : (p : Progress) → ProgressFine p → WhereOk (AllByRecursion LibraryFine) (finished p)
 finished_fine p f = go p.draft f.draft
   where
-    go : (o : Option Draft) → WhereSome DraftFine o → WhereOk (Each LibraryFine) (opt o (Ok p.done) (λ d. on_ok (checked d) (λ l. Ok (p.done ++ (l ∷ [])))))
-    go none g = f.done
-    go (some d) g = on_ok_if (Each LibraryFine) (checked d) _ (λ l e. each_push LibraryFine p.done l f.done (subst (WhereOk LibraryFine) e (checked_fine d g)))
+    go : (o : Option Draft) → WhereSome DraftFine o → WhereOk (AllByRecursion LibraryFine) (opt o (Ok p.done) (λ d. on_ok (checked d) (λ l. Ok (p.done ++ (l ∷ [])))))
+    go None g = f.done
+    go (Some d) g = on_ok_if (AllByRecursion LibraryFine) (checked d) _ (λ l e. each_push LibraryFine p.done l f.done (subst (WhereOk LibraryFine) e (checked_fine d g)))
 
 sized_fine : (n : ℕ) (d : Draft) → Named d → WhereOk DraftFine (sized n d)
 sized_fine n d u = go (leb (length d.library.cells) 65535) refl
   where
-    go : (b : Bool) → leb (length d.library.cells) 65535 ≡ b → WhereOk DraftFine (pick b (Ok d) (Err (bad n TooManyCells)))
+    go : (b : Bool) → leb (length d.library.cells) 65535 ≡ b → WhereOk DraftFine (cond b (Ok d) (Err (bad n TooManyCells)))
     go true e = record { under = u; small = omega (arith, leb-true (length d.library.cells) 65535 e) }
     go false e = tt
 
@@ -105,7 +105,7 @@ lib_fine : (n : ℕ) (p : Progress) (ws : List Name) → ProgressFine p → Wher
 lib_fine n p ws f =
     on_ok_if ProgressFine (finished p) _
     (λ ls e. on_ok_if ProgressFine (at_line_number n (lib_words ls ws)) _
-    (λ x q. record { done = subst (WhereOk (Each LibraryFine)) e (finished_fine p f); draft = record { under = record { cells = tt; defs = tt; inits = tt; finis = tt }; small = omega arith } }))
+    (λ x q. record { done = subst (WhereOk (AllByRecursion LibraryFine)) e (finished_fine p f); draft = record { under = record { cells = tt; defs = tt; inits = tt; finis = tt }; small = omega arith } }))
 
 line_fine : (n : ℕ) (p : Progress) (ws : List Name) → ProgressFine p → WhereOk ProgressFine (line n p ws)
 line_fine n p [] f = f
@@ -113,13 +113,13 @@ line_fine n p ([] ∷ ws) f = f
 line_fine n p ((c ∷ cs) ∷ ws) f = pick_ok ProgressFine (eqb c 35) _ _ f (pick_ok ProgressFine (same (c ∷ cs) k_lib) _ _ (lib_fine n p ws f) (go p.draft f.draft))
   where
     go : (o : Option Draft) → WhereSome DraftFine o → WhereOk ProgressFine (opt o (Err (bad n OutsideLibrary)) (λ d. library_item n p d (c ∷ cs) ws))
-    go none g = tt
-    go (some d) g = item_fine n p d (c ∷ cs) ws f g
+    go None g = tt
+    go (Some d) g = item_fine n p d (c ∷ cs) ws f g
 
-lines_fine : (n : ℕ) (p : Progress) (xs : List (List Name)) → ProgressFine p → WhereOk (Each LibraryFine) (lines n p xs)
+lines_fine : (n : ℕ) (p : Progress) (xs : List (List Name)) → ProgressFine p → WhereOk (AllByRecursion LibraryFine) (lines n p xs)
 lines_fine n p [] f = finished_fine p f
-lines_fine n p (ws ∷ xs) f = on_ok_if (Each LibraryFine) (line n p ws) _ (λ q e. lines_fine (suc n) q xs (subst (WhereOk ProgressFine) e (line_fine n p ws f)))
+lines_fine n p (ws ∷ xs) f = on_ok_if (AllByRecursion LibraryFine) (line n p ws) _ (λ q e. lines_fine (suc n) q xs (subst (WhereOk ProgressFine) e (line_fine n p ws f)))
 
-pub reads_fine : (t : List ℕ) (ls : List Library) → reads t ≡ some ls → Each LibraryFine ls
+pub reads_fine : (t : List ℕ) (ls : List Library) → reads t ≡ Some ls → AllByRecursion LibraryFine ls
 unfolding read
-reads_fine t ls e = subst (WhereOk (Each LibraryFine)) (ok_part_inv (read t) ls e) (lines_fine 1 nothing_read (map words_of (lines_of t)) (record { done = tt; draft = tt }))
+reads_fine t ls e = subst (WhereOk (AllByRecursion LibraryFine)) (ok_part_inv (read t) ls e) (lines_fine 1 nothing_read (map words_of (lines_of t)) (record { done = tt; draft = tt }))

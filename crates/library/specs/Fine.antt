@@ -1,7 +1,6 @@
 -- Libraries whose registers, numbers and cells are in range.
-use Rattle.std.specs.Prelude.{◌≡◌, ℕ, ◌<◌, ◌≤◌, List, length}
-use Rattle.std.proofs.Math.Option.{some}
-use Rattle.base.specs.Lists.{Each}
+use Rattle.std.specs.List.{AllByRecursion}
+use Rattle.std.specs.Prelude.{◌≡◌, ℕ, ◌<◌, ◌≤◌, List, length, Some}
 use Rattle.library.specs.Library.{Instruction, Set, Get, Sto, Own, Add, Sub, Mul, Less, Same, Move, Jump, If0, Call, Callr, Ret, Push, Pop, Out, In, Open, Find, Close, End, Cell, number, ref, at, slot, named, instruction, Library}
 use Rattle.library.specs.Text.{reach, reads}
 
@@ -46,12 +45,12 @@ CellFine z (instruction o) = Fine o × InCells o z
 
 -- the cells, numbers and registers of a library
 pub record LibraryFine (l : Library) : Type 0 where
-  pub cells : Each (CellFine (length l.cells)) l.cells
+  pub cells : AllByRecursion (CellFine (length l.cells)) l.cells
   pub small : length l.cells < 65536
-  pub defs : Each (λ d. d.cell < length l.cells) l.defs
-  pub inits : Each (λ j. j < length l.cells) l.inits
-  pub finis : Each (λ j. j < length l.cells) l.finis
+  pub defs : AllByRecursion (λ d. d.cell < length l.cells) l.defs
+  pub inits : AllByRecursion (λ j. j < length l.cells) l.inits
+  pub finis : AllByRecursion (λ j. j < length l.cells) l.finis
 
 -- all that a text gives is in range
 abbrev pub ReadsFine : Type 0
-ReadsFine = (t : List ℕ) (ls : List Library) → reads t ≡ some ls → Each LibraryFine ls
+ReadsFine = (t : List ℕ) (ls : List Library) → reads t ≡ Some ls → AllByRecursion LibraryFine ls

@@ -1,8 +1,6 @@
 -- A library: its cells, what it defines, what it needs, what is called first and last.
-use Rattle.std.specs.Prelude.{ℕ, ◌+◌, Bool, List, [], ◌∷◌, ◌++◌, length}
-use Rattle.std.proofs.Math.Option.{Option, some, none}
-use Rattle.base.specs.Choices.{pick, on_some}
-use Rattle.base.specs.Lists.{nth}
+use Rattle.std.specs.Prelude.{ℕ, ◌+◌, Bool, List, [], ◌∷◌, ◌++◌, length, None, Option, Some, cond, slice_get}
+use Rattle.base.specs.Choices.{on_some}
 use Rattle.base.specs.Names.{Name, same}
 
 -- a name that is asked for or defined, with a version; asked for, the version - is any
@@ -67,8 +65,8 @@ pub record Library : Type 0 where
 
 -- the library of a name
 abbrev pub find_library : List Library → Name → Option Library
-find_library [] x = none
-find_library (l ∷ ls) x = pick (same l.name x) (some l) (find_library ls x)
+find_library [] x = None
+find_library (l ∷ ls) x = cond (same l.name x) (Some l) (find_library ls x)
 
 -- the version that is asked for where any will do
 abbrev pub any_version : Name
@@ -85,18 +83,18 @@ all_cells (l ∷ ls) = l.cells ++ all_cells ls
 
 -- the name that a cell holds
 abbrev pub label_in : Cell → Option Name
-label_in (number n) = none
-label_in (ref s k b) = none
-label_in (at k) = none
-label_in (slot s) = none
-label_in (named x) = some x
-label_in (instruction o) = none
+label_in (number n) = None
+label_in (ref s k b) = None
+label_in (at k) = None
+label_in (slot s) = None
+label_in (named x) = Some x
+label_in (instruction o) = None
 
 -- the name in the cell of this number, counted over all cells of a text
 abbrev pub label_at : List Library → ℕ → Option Name
-label_at ls w = on_some (nth (all_cells ls) w) label_in
+label_at ls w = on_some (slice_get (all_cells ls) w) label_in
 
 -- how many cells stand before the library that a name finds
 abbrev pub cells_before : List Library → Name → ℕ
 cells_before [] x = 0
-cells_before (l ∷ ls) x = pick (same l.name x) 0 (length l.cells + cells_before ls x)
+cells_before (l ∷ ls) x = cond (same l.name x) 0 (length l.cells + cells_before ls x)

@@ -1,7 +1,6 @@
 -- A line of a text: the words behind its first, and what it says of the library that it stands in.
-use Rattle.std.specs.Prelude.{ℕ, Bool, true, false, List, [], ◌∷◌, Ok, Err, Result}
-use Rattle.std.proofs.Math.Option.{Option, some, none}
-use Rattle.base.specs.Choices.{pick, opt, on_ok}
+use Rattle.std.specs.Prelude.{ℕ, Bool, true, false, List, [], ◌∷◌, Ok, Err, Result, None, Option, Some, cond}
+use Rattle.base.specs.Choices.{opt, on_ok}
 use Rattle.base.specs.Names.{Name, same}
 use Rattle.text.specs.Words.{below}
 use Rattle.library.specs.Library.{Symbol, Definition, Cell, number, ref, at, slot, named, instruction, Instruction}
@@ -42,7 +41,7 @@ a_word w = Ok w
 
 -- true for the word y, false for the word n
 abbrev pub either : Name → Name → Name → Read Bool
-either y n w = pick (same w y) (Ok true) (pick (same w n) (Ok false) (Err NotChoice))
+either y n w = cond (same w y) (Ok true) (cond (same w n) (Ok false) (Err NotChoice))
 
 -- the next word as f reads it, and the words behind it
 abbrev pub takes : {A : Type 0} → (Name → Read A) → List Name → Read (A × List Name)
@@ -134,13 +133,13 @@ operands opcode.Find ws = reg_reg_cell library.Find ws
 
 -- the entry of a word in a table of keywords
 abbrev pub keyed : {X : Type 0} → List (Name × X) → Name → Option X
-keyed [] w = none
-keyed ((k, x) ∷ xs) w = pick (same w k) (some x) (keyed xs w)
+keyed [] w = None
+keyed ((k, x) ∷ xs) w = cond (same w k) (Some x) (keyed xs w)
 
 -- the first of two
 abbrev pub or_else : {X : Type 0} → Option X → Option X → Option X
-or_else none o = o
-or_else (some x) o = some x
+or_else None o = o
+or_else (Some x) o = Some x
 
 -- values and memory
 abbrev pub data_opcodes : List (Name × Opcode)
@@ -189,11 +188,11 @@ name_line ws = then a_word ws (λ x us. end_line (named x) us)
 -- a line that says a cell
 abbrev pub cell_line : Name → List Name → Read Cell
 cell_line w ws =
-    pick (same w k_word) (number_line ws)
-    (pick (same w k_ref) (ref_line ws)
-    (pick (same w k_at) (at_line ws)
-    (pick (same w k_slot) (slot_line ws)
-    (pick (same w k_name) (name_line ws)
+    cond (same w k_word) (number_line ws)
+    (cond (same w k_ref) (ref_line ws)
+    (cond (same w k_at) (at_line ws)
+    (cond (same w k_slot) (slot_line ws)
+    (cond (same w k_name) (name_line ws)
     (on_ok (instruction_line w ws) (λ o. Ok (instruction o)))))))
 
 -- what a line says of the library that it stands in
@@ -220,9 +219,9 @@ call_line f ws = then a_cell ws (λ k us. end_line (f k) us)
 -- a line, by its first word and the words behind it
 abbrev pub item_line : Name → List Name → Read Item
 item_line w ws =
-    pick (same w k_inward) (end_line inward ws)
-    (pick (same w k_needs) (needs_line ws)
-    (pick (same w k_def) (def_line ws)
-    (pick (same w k_init) (call_line init ws)
-    (pick (same w k_fini) (call_line fini ws)
+    cond (same w k_inward) (end_line inward ws)
+    (cond (same w k_needs) (needs_line ws)
+    (cond (same w k_def) (def_line ws)
+    (cond (same w k_init) (call_line init ws)
+    (cond (same w k_fini) (call_line fini ws)
     (on_ok (cell_line w ws) (λ c. Ok (cell c)))))))

@@ -1,7 +1,7 @@
 -- A text of libraries, and the libraries that it has.
-use Rattle.std.specs.Prelude.{ℕ, suc, true, false, List, [], ◌∷◌, ◌++◌, map, length, Ok, Err, Result, ◌==◌, nat_le, nat_lt}
-use Rattle.std.proofs.Math.Option.{Option, some, none}
-use Rattle.base.specs.Choices.{pick, opt, has_value, on_ok, ok_part}
+use Rattle.std.specs.Result.{result_ok}
+use Rattle.std.specs.Prelude.{ℕ, suc, true, false, List, [], ◌∷◌, ◌++◌, map, length, Ok, Err, Result, ◌==◌, nat_le, nat_lt, None, Option, Some, cond, is_some}
+use Rattle.base.specs.Choices.{opt, on_ok}
 use Rattle.base.specs.Names.{Name, same}
 use Rattle.text.specs.Words.{lines_of, words_of}
 use Rattle.library.specs.Library.{Instruction, Set, Get, Sto, Own, Add, Sub, Mul, Less, Same, Move, Jump, If0, Call, Callr, Ret, Push, Pop, Out, In, Open, Find, Close, End, Cell, number, ref, at, slot, named, instruction, Library, find_library}
@@ -94,7 +94,7 @@ new_draft x = record { library = new_library x; top = 0; top_line = 0 }
 
 -- a draft with a reach at line n
 abbrev pub raised : ℕ → Draft → ℕ → Draft
-raised n d r = pick (nat_lt d.top r) (record { library = d.library; top = r; top_line = n }) d
+raised n d r = cond (nat_lt d.top r) (record { library = d.library; top = r; top_line = n }) d
 
 -- a draft with another library
 abbrev pub with_library : Draft → Library → Draft
@@ -106,7 +106,7 @@ drafted n d i = raised n (with_library d (apply d.library i)) (item_reach i)
 
 -- a library that is done, where it has the cells that its lines name
 abbrev pub checked : Draft → Result Library BadLine
-checked d = pick (nat_le d.top (length d.library.cells)) (Ok d.library) (Err (bad d.top_line NoSuchCell))
+checked d = cond (nat_le d.top (length d.library.cells)) (Ok d.library) (Err (bad d.top_line NoSuchCell))
 
 -- all libraries so far, the last one done
 abbrev pub finished : Progress → Result (List Library) BadLine
@@ -114,27 +114,27 @@ finished p = opt p.draft (Ok p.done) (λ d. on_ok (checked d) (λ l. Ok (p.done 
 
 -- a draft where it has at most 65,535 cells
 abbrev pub sized : ℕ → Draft → Result Draft BadLine
-sized n d = pick (nat_le (length d.library.cells) 65535) (Ok d) (Err (bad n TooManyCells))
+sized n d = cond (nat_le (length d.library.cells) 65535) (Ok d) (Err (bad n TooManyCells))
 
 -- line n of a library, by its first word and the words behind it
 abbrev pub library_item : ℕ → Progress → Draft → Name → List Name → Result Progress BadLine
-library_item n p d w ws = on_ok (at_line_number n (item_line w ws)) (λ i. on_ok (sized n (drafted n d i)) (λ e. Ok (record { done = p.done; draft = some e })))
+library_item n p d w ws = on_ok (at_line_number n (item_line w ws)) (λ i. on_ok (sized n (drafted n d i)) (λ e. Ok (record { done = p.done; draft = Some e })))
 
 -- the words behind `lib`: a name that none of the libraries has
 abbrev pub lib_words : List Library → List Name → Read Name
-lib_words ls ws = then a_word ws (λ x us. pick (has_value (find_library ls x)) (Err DuplicateLibrary) (end_line x us))
+lib_words ls ws = then a_word ws (λ x us. cond (is_some (find_library ls x)) (Err DuplicateLibrary) (end_line x us))
 
 -- line n begins a library
 abbrev pub lib_line : ℕ → Progress → List Name → Result Progress BadLine
-lib_line n p ws = on_ok (finished p) (λ ls. on_ok (at_line_number n (lib_words ls ws)) (λ x. Ok (record { done = ls; draft = some (new_draft x) })))
+lib_line n p ws = on_ok (finished p) (λ ls. on_ok (at_line_number n (lib_words ls ws)) (λ x. Ok (record { done = ls; draft = Some (new_draft x) })))
 
 -- line n, by its words; a line without words, or whose first word begins with #, says nothing
 abbrev pub line : ℕ → Progress → List Name → Result Progress BadLine
 line n p [] = Ok p
 line n p ([] ∷ ws) = Ok p
 line n p ((c ∷ cs) ∷ ws) =
-    pick (c == 35) (Ok p)
-    (pick (same (c ∷ cs) k_lib) (lib_line n p ws)
+    cond (c == 35) (Ok p)
+    (cond (same (c ∷ cs) k_lib) (lib_line n p ws)
     (opt p.draft (Err (bad n OutsideLibrary)) (λ d. library_item n p d (c ∷ cs) ws)))
 
 -- the lines from number n on
@@ -144,7 +144,7 @@ lines n p (ws ∷ xs) = on_ok (line n p ws) (λ q. lines (suc n) q xs)
 
 -- before anything is read
 abbrev pub nothing_read : Progress
-nothing_read = record { done = []; draft = none }
+nothing_read = record { done = []; draft = None }
 
 -- the libraries of a text, or the first line that is wrong
 unfoldable pub read : List ℕ → Result (List Library) BadLine
@@ -152,4 +152,4 @@ read t = lines 1 nothing_read (map words_of (lines_of t))
 
 -- the libraries of a text, where it is one
 abbrev pub reads : List ℕ → Option (List Library)
-reads t = ok_part (read t)
+reads t = result_ok (read t)

@@ -1,8 +1,6 @@
 -- What the tables of what is loaded stand for.
-use Rattle.std.specs.Prelude.{false, List, [], ◌∷◌, ℕ, zero, suc, ◌-◌, ◌%◌, length, ◌==◌, nat_lt, slice_index}
-use Rattle.std.proofs.Math.Option.{Option, some, none}
+use Rattle.std.specs.Prelude.{false, List, [], ◌∷◌, ℕ, zero, suc, ◌-◌, ◌%◌, length, ◌==◌, nat_lt, slice_index, None, Option, Some, slice_get}
 use Rattle.base.specs.Choices.{opt}
-use Rattle.base.specs.Lists.{nth}
 use Rattle.library.specs.Library.{Library}
 use Rattle.links.specs.Links.{Place, place_at, Links}
 use Rattle.links.specs.Links as links
@@ -22,7 +20,7 @@ no_library = record { name = []; inward = false; needs = []; defs = []; inits = 
 
 -- the library of a number
 abbrev pub library_at : List Library → ℕ → Library
-library_at ls k = opt (nth ls k) no_library (λ l. l)
+library_at ls k = opt (slice_get ls k) no_library (λ l. l)
 
 -- the library of module i
 abbrev pub library_in : Tables → ℕ → ℕ
@@ -38,8 +36,8 @@ group_row t i = record { first = slice_index t.groups.first.now i; end = slice_i
 
 -- what a cell is bound to, by the two words of its binding
 abbrev pub bound_by : ℕ → ℕ → Option Place
-bound_by zero k = none
-bound_by (suc i) k = some (place_at i k)
+bound_by zero k = None
+bound_by (suc i) k = Some (place_at i k)
 
 -- what the cell at word a is bound to
 abbrev pub binding_at : Tables → ℕ → Option Place

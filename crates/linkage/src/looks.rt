@@ -1,6 +1,5 @@
-ghost use Rattle.std.specs.Prelude.{◌≡◌, nat_lt, slice_index};
-ghost use Rattle.std.proofs.Math.Option.{some};
-ghost use Rattle.base.specs.Choices.{found, guard};
+ghost use Rattle.std.specs.Prelude.{◌≡◌, nat_lt, slice_index, Some};
+ghost use Rattle.base.specs.Choices.{guard};
 ghost use Rattle.linkage.specs.Tables.{module_row, group_row};
 
 use crate::tables::{Counts, Tables};
@@ -16,7 +15,7 @@ pub fn word(words: &[u64], i: usize) -> u64
 
 // Module i.
 pub fn module_at(tables: &Tables, counts: &Counts, i: usize) -> Option<Module>
-    ensures { found result ≡ guard (nat_lt i counts.now.modules) (some (module_row tables.now i)) }
+    ensures { result ≡ guard (nat_lt i counts.now.modules) (Some (module_row tables.now i)) }
 {
     if i >= counts.modules {
         return None;
@@ -32,7 +31,7 @@ pub fn module_at(tables: &Tables, counts: &Counts, i: usize) -> Option<Module>
 
 // Group i.
 pub fn group_at(tables: &Tables, counts: &Counts, i: usize) -> Option<Group>
-    ensures { found result ≡ guard (nat_lt i counts.now.groups) (some (group_row tables.now i)) }
+    ensures { result ≡ guard (nat_lt i counts.now.groups) (Some (group_row tables.now i)) }
 {
     if i >= counts.groups {
         return None;

@@ -1,7 +1,6 @@
 -- How much the libraries of a closure weigh together: no more than the whole text, whatever is counted.
+use Rattle.std.specs.Prelude.{None, Option, Some, cond}
 use Rattle.std.proofs.Common.{◌≡◌, ℕ, ◌+◌, ◌≤◌, Bool, true, false, List, [], ◌∷◌, length, refl, arith}
-use mathlib.Core.Option.{Option, some, none}
-use Rattle.base.specs.Choices.{pick}
 use Rattle.base.specs.Names.{Name, same, among, Once}
 use Rattle.base.proofs.Names.{same_is}
 use Rattle.library.specs.Library.{Library, find_library}
@@ -11,8 +10,8 @@ use Rattle.std.proofs.lemmas.Bool.{or_parts, or_from}
 
 -- the weight of a library that was looked for
 abbrev pub weight : (Library → ℕ) → Option Library → ℕ
-weight f none = 1
-weight f (some l) = f l
+weight f None = 1
+weight f (Some l) = f l
 
 -- the weight of these together
 abbrev pub weigh : (Library → ℕ) → List Library → List Name → ℕ
@@ -26,7 +25,7 @@ weigh_all f (l ∷ ls) = f l + weigh_all f ls
 
 abbrev without : Name → List Name → List Name
 without y [] = []
-without y (x ∷ xs) = pick (same y x) xs (x ∷ without y xs)
+without y (x ∷ xs) = cond (same y x) xs (x ∷ without y xs)
 
 not_among : (y x : Name) (xs : List Name) → same y x ≡ true → among x xs ≡ false → among y xs ≡ false
 not_among y x xs p q = rw (same_is y x p) q
@@ -39,7 +38,7 @@ found_without : (l : Library) (ls : List Library) (xs : List Name) → Once xs �
 found_without l ls [] o f = tt
 found_without l ls (x ∷ xs) o f = go (same l.name x) refl f.0.1 (found_without l ls xs o.1 f.1)
   where
-    go : (b : Bool) → same l.name x ≡ b → pick b (some l) (find_library ls x) ≡ some f.0.0 → Found ls (without l.name xs) → Found ls (pick b xs (x ∷ without l.name xs))
+    go : (b : Bool) → same l.name x ≡ b → cond b (Some l) (find_library ls x) ≡ Some f.0.0 → Found ls (without l.name xs) → Found ls (cond b xs (x ∷ without l.name xs))
     go true e q r = found_same l ls xs (not_among l.name x xs e o.0) f.1
     go false e q r = ((f.0.0, q), r)
 
@@ -47,7 +46,7 @@ among_without : (x y : Name) (xs : List Name) → among x xs ≡ false → among
 among_without x y [] e = refl
 among_without x y (z ∷ xs) e = go (same y z) (or_parts _ _ e) (among_without x y xs (or_parts _ _ e).1)
   where
-    go : (b : Bool) → (same x z ≡ false) × (among x xs ≡ false) → among x (without y xs) ≡ false → among x (pick b xs (z ∷ without y xs)) ≡ false
+    go : (b : Bool) → (same x z ≡ false) × (among x xs ≡ false) → among x (without y xs) ≡ false → among x (cond b xs (z ∷ without y xs)) ≡ false
     go true p r = p.1
     go false p r = or_from _ _ p.0 r
 
@@ -55,7 +54,7 @@ once_without : (y : Name) (xs : List Name) → Once xs → Once (without y xs)
 once_without y [] o = tt
 once_without y (x ∷ xs) o = go (same y x) (once_without y xs o.1)
   where
-    go : (b : Bool) → Once (without y xs) → Once (pick b xs (x ∷ without y xs))
+    go : (b : Bool) → Once (without y xs) → Once (cond b xs (x ∷ without y xs))
     go true r = o.1
     go false r = (among_without x y xs o.0, r)
 
@@ -68,7 +67,7 @@ module _ (f : Library → ℕ) where
   weigh_without l ls [] o = omega arith
   weigh_without l ls (x ∷ xs) o = go (same l.name x) refl (weigh_without l ls xs o.1)
     where
-      go : (b : Bool) → same l.name x ≡ b → weigh f (l ∷ ls) xs ≤ f l + weigh f ls (without l.name xs) → weight f (pick b (some l) (find_library ls x)) + weigh f (l ∷ ls) xs ≤ f l + weigh f ls (pick b xs (x ∷ without l.name xs))
+      go : (b : Bool) → same l.name x ≡ b → weigh f (l ∷ ls) xs ≤ f l + weigh f ls (without l.name xs) → weight f (cond b (Some l) (find_library ls x)) + weigh f (l ∷ ls) xs ≤ f l + weigh f ls (cond b xs (x ∷ without l.name xs))
       go true e r = omega (arith, weigh_same l ls xs (not_among l.name x xs e o.0))
       go false e r = omega arith
 

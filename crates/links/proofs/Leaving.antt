@@ -1,7 +1,8 @@
 -- A set grown by a loop tells what leaves.
+use Rattle.std.specs.Prelude.{cond, filter, is_some}
 use Rattle.std.proofs.Common.{◌≡◌, ℕ, zero, suc, Bool, true, false, not, ◌&&◌, eqb, ◌⊎◌, List, [], ◌∷◌, ◌++◌, length, sym, refl, ap, subst, inl, inr, ⊎_elim, arith}
-use Rattle.base.specs.Choices.{pick, opt, has_value}
-use Rattle.base.specs.Lists.{has, keep, Within}
+use Rattle.base.specs.Choices.{opt}
+use Rattle.base.specs.Lists.{has, Within}
 use Rattle.base.proofs.Sets.{has_here, has_there}
 use Rattle.links.specs.Links.{Module}
 use Rattle.links.specs.Scope.{live_at}
@@ -15,7 +16,7 @@ pub joins_from : (xs seen : List ℕ) (j : ℕ) → has j (joins xs seen) ≡ tr
 joins_from [] seen j e = inr e
 joins_from (x ∷ xs) seen j e = go (has x seen) e (joins_from xs seen j) (joins_from xs (x ∷ seen) j)
   where
-    go : (b : Bool) → has j (joins xs (pick b seen (x ∷ seen))) ≡ true → (has j (joins xs seen) ≡ true → (has j xs ≡ true) ⊎ (has j seen ≡ true)) → (has j (joins xs (x ∷ seen)) ≡ true → (has j xs ≡ true) ⊎ (has j (x ∷ seen) ≡ true)) → (has j (x ∷ xs) ≡ true) ⊎ (has j seen ≡ true)
+    go : (b : Bool) → has j (joins xs (cond b seen (x ∷ seen))) ≡ true → (has j (joins xs seen) ≡ true → (has j xs ≡ true) ⊎ (has j seen ≡ true)) → (has j (joins xs (x ∷ seen)) ≡ true → (has j xs ≡ true) ⊎ (has j (x ∷ seen) ≡ true)) → (has j (x ∷ xs) ≡ true) ⊎ (has j seen ≡ true)
     go true e r s = ⊎_elim (λ q. inl (has_there j x xs q)) inr (r e)
     go false e r s = ⊎_elim (λ q. inl (has_there j x xs q)) (λ q. ⊎_elim (λ p. inl (or_left (eqb j x) (has j xs) p)) inr (or_cases (eqb j x) (has j seen) q)) (s e)
 
@@ -50,12 +51,12 @@ same_bool true b f g = sym (f refl)
 same_bool false true f g = g refl
 same_bool false false f g = refl
 
-keep_same : {A : Type 0} (f g : A → Bool) (xs : List A) → ((x : A) → f x ≡ g x) → keep f xs ≡ keep g xs
+keep_same : {A : Type 0} (f g : A → Bool) (xs : List A) → ((x : A) → f x ≡ g x) → filter f xs ≡ filter g xs
 keep_same f g [] h = refl
-keep_same f g (x ∷ xs) h = λ i. pick (h x i) (x ∷ keep_same f g xs h i) (keep_same f g xs h i)
+keep_same f g (x ∷ xs) h = λ i. cond (h x i) (x ∷ keep_same f g xs h i) (keep_same f g xs h i)
 
 pub leaving_by_set : LeavingBySet
-leaving_by_set k s r = keep_same _ _ k.order (λ j. ap (λ b. has_value (live_at k.modules j) && not b) (same_bool (has j kept) (has j s) (retained_least (length k.modules) k.modules (joins (open_members k.groups) []) s first r.closed j) (r.only j)))
+leaving_by_set k s r = keep_same _ _ k.order (λ j. ap (λ b. is_some (live_at k.modules j) && not b) (same_bool (has j kept) (has j s) (retained_least (length k.modules) k.modules (joins (open_members k.groups) []) s first r.closed j) (r.only j)))
   where
     kept : List ℕ
     kept = retained (length k.modules) k.modules (joins (open_members k.groups) [])

@@ -1,7 +1,7 @@
 -- Numbers in lists: where one that is there stands, what a filter keeps, lists without repetition.
+use Rattle.std.specs.Prelude.{cond, filter}
 use Rattle.std.proofs.Common.{◌≡◌, ℕ, zero, suc, ◌≤◌, Bool, true, false, eqb, ◌⊎◌, List, [], ◌∷◌, ◌++◌, sym, refl, ap, ◌∙◌, inl, inr, ⊎_elim, arith}
-use Rattle.base.specs.Choices.{pick}
-use Rattle.base.specs.Lists.{has, keep}
+use Rattle.base.specs.Lists.{has}
 use Rattle.base.proofs.Sets.{has_here, has_there}
 use Rattle.links.specs.Laws.{up_from}
 use Rattle.links.specs.Whole.{Distinct}
@@ -20,23 +20,23 @@ has_cases j i js e = ⊎_elim (λ p. inl (eqb-true j i p)) inr (or_cases (eqb j 
 pub has_first : (j i : ℕ) (js : List ℕ) → j ≡ i → has j (i ∷ js) ≡ true
 has_first j i js e = or_left (eqb j i) (has j js) (eq-eqb j i e)
 
-pub has-keep : (f : ℕ → Bool) (j : ℕ) (js : List ℕ) → has j js ≡ true → f j ≡ true → has j (keep f js) ≡ true
+pub has-keep : (f : ℕ → Bool) (j : ℕ) (js : List ℕ) → has j js ≡ true → f j ≡ true → has j (filter f js) ≡ true
 has-keep f j [] e h = has_none j e
 has-keep f j (i ∷ js) e h = go (f i) refl (has-keep f j js)
   where
-    go : (b : Bool) → f i ≡ b → (has j js ≡ true → f j ≡ true → has j (keep f js) ≡ true) → has j (pick b (i ∷ keep f js) (keep f js)) ≡ true
-    go true q r = ⊎_elim (has_first j i (keep f js)) (λ p. has_there j i (keep f js) (r p h)) (has_cases j i js e)
+    go : (b : Bool) → f i ≡ b → (has j js ≡ true → f j ≡ true → has j (filter f js) ≡ true) → has j (cond b (i ∷ filter f js) (filter f js)) ≡ true
+    go true q r = ⊎_elim (has_first j i (filter f js)) (λ p. has_there j i (filter f js) (r p h)) (has_cases j i js e)
     go false q r = ⊎_elim (λ p. absurd (clash (sym h ∙ ap f p ∙ q))) (λ p. r p h) (has_cases j i js e)
       where
         clash : true ≡ false → ⊥
         clash z = let w : ◌≡◌ {A = ℕ} 0 1 = cc in omega arith
 
-pub keep-has : (f : ℕ → Bool) (j : ℕ) (js : List ℕ) → has j (keep f js) ≡ true → (has j js ≡ true) × (f j ≡ true)
+pub keep-has : (f : ℕ → Bool) (j : ℕ) (js : List ℕ) → has j (filter f js) ≡ true → (has j js ≡ true) × (f j ≡ true)
 keep-has f j [] e = has_none j e
 keep-has f j (i ∷ js) e = go (f i) refl e (keep-has f j js)
   where
-    go : (b : Bool) → f i ≡ b → has j (pick b (i ∷ keep f js) (keep f js)) ≡ true → (has j (keep f js) ≡ true → (has j js ≡ true) × (f j ≡ true)) → (has j (i ∷ js) ≡ true) × (f j ≡ true)
-    go true q e r = ⊎_elim (λ p. (has_first j i js p, ap f p ∙ q)) (λ p. let t = r p in (has_there j i js t.0, t.1)) (has_cases j i (keep f js) e)
+    go : (b : Bool) → f i ≡ b → has j (cond b (i ∷ filter f js) (filter f js)) ≡ true → (has j (filter f js) ≡ true → (has j js ≡ true) × (f j ≡ true)) → (has j (i ∷ js) ≡ true) × (f j ≡ true)
+    go true q e r = ⊎_elim (λ p. (has_first j i js p, ap f p ∙ q)) (λ p. let t = r p in (has_there j i js t.0, t.1)) (has_cases j i (filter f js) e)
     go false q e r = let t = r e in (has_there j i js t.0, t.1)
 
 pub distinct_append : (xs ys : List ℕ) → Distinct xs → Distinct ys → ((j : ℕ) → has j xs ≡ true → has j ys ≡ false) → Distinct (xs ++ ys)

@@ -1,7 +1,6 @@
 -- The order of initialisation: every library of the closure once, what is needed first but for rings.
+use Rattle.std.specs.Prelude.{Some, cond}
 use Rattle.std.proofs.Common.{◌≡◌, ℕ, zero, suc, ◌+◌, ◌≤◌, Bool, true, false, ◌||◌, ◌⊎◌, List, [], ◌∷◌, ◌++◌, length, sym, refl, ap, ◌∙◌, subst, inl, inr, ⊎_elim, arith}
-use mathlib.Core.Option.{some}
-use Rattle.base.specs.Choices.{pick}
 use Rattle.base.specs.Names.{Name, same, among, Once}
 use Rattle.base.proofs.Choices.{some_is, pick_true, pick_false, opt_some}
 use Rattle.base.proofs.Names.{same_self, once_append}
@@ -44,7 +43,7 @@ tasks_of l = suc (length l.needs)
 -- the tasks that libraries which weren't seen will make
 abbrev ahead : List Library → List Name → List Name → ℕ
 ahead ls seen [] = 0
-ahead ls seen (y ∷ ys) = pick (among y seen) 0 (weight tasks_of (find_library ls y)) + ahead ls seen ys
+ahead ls seen (y ∷ ys) = cond (among y seen) 0 (weight tasks_of (find_library ls y)) + ahead ls seen ys
 
 -- while it is walked
 record Walks (ls : List Library) (x : Name) (ts : List Task) (seen done : List Name) : Type 0 where
@@ -90,7 +89,7 @@ before_other : (y w : Name) (xs : List Name) → among y xs ≡ true → before 
 before_other y w [] e = among_none y e
 before_other y w (x ∷ xs) e = go (same y x) e (before_other y w xs)
   where
-    go : (b : Bool) → (b || among y xs) ≡ true → (among y xs ≡ true → before y (xs ++ (w ∷ [])) ≡ before y xs) → pick b [] (x ∷ before y (xs ++ (w ∷ []))) ≡ pick b [] (x ∷ before y xs)
+    go : (b : Bool) → (b || among y xs) ≡ true → (among y xs ≡ true → before y (xs ++ (w ∷ [])) ≡ before y xs) → cond b [] (x ∷ before y (xs ++ (w ∷ []))) ≡ cond b [] (x ∷ before y xs)
     go true q r = refl
     go false q r = ap (λ zs. x ∷ zs) (r q)
 
@@ -119,7 +118,7 @@ module _ (ls : List Library) (x : Name) where
       needs_first v z e n = ⊎_elim (λ p. rw (before_other v y done p) (r.needs_first v z p n)) (λ p. ⊎_elim (λ q. rw q (own z (rw q at n))) (among_none v) (among_cases v y [] p)) (among_split v done (y ∷ []) e)
 
   -- entered now: what it needs is entered before it is left
-  entering : (z : Name) (l : Library) (ts : List Task) (seen done : List Name) → Walks ls x (enter z ∷ ts) seen done → among z seen ≡ false → find_library ls z ≡ some l → Walks ls x (enters l.needs ++ (leave z ∷ ts)) (z ∷ seen) done
+  entering : (z : Name) (l : Library) (ts : List Task) (seen done : List Name) → Walks ls x (enter z ∷ ts) seen done → among z seen ≡ false → find_library ls z ≡ Some l → Walks ls x (enters l.needs ++ (leave z ∷ ts)) (z ∷ seen) done
   entering z l ts seen done r e q = record { root = among_there x z seen r.root; parted = λ v h. subst (λ es. (among v done ≡ true) ⊎ (among v es ≡ true)) (sym same_entered) (parted v h); done_seen = λ v h. among_there v z seen (r.done_seen v h); entered_seen = λ v h. seen_too v (subst (λ es. among v es ≡ true) same_entered h); done_once = r.done_once; entered_once = subst Once (sym same_entered) (fresh (entered ts) r.entered_seen, r.entered_once); apart = λ v h. apart v (subst (λ es. among v es ≡ true) same_entered h); reached = r.reached; nested = nested_entered ls x l.needs z ts (λ w h. (l, q, h)) r.nested; awaits = awaits_entered ls (z ∷ seen) l.needs z ts (λ w n. inl (ap (λ m. among w m.needs) (some_is (sym q ∙ n.1)) ∙ n.2)) r.awaits; needs_seen = λ v w h n. among_there w z seen (r.needs_seen v w h n); needs_first = r.needs_first }
     where
       same_entered : entered (enters l.needs ++ (leave z ∷ ts)) ≡ z ∷ entered ts
@@ -141,21 +140,21 @@ module _ (ls : List Library) (x : Name) where
   ahead_less z seen [] = omega arith
   ahead_less z seen (y ∷ ys) = go (same y z) (among y seen) (ahead_less z seen ys)
     where
-      go : (a b : Bool) → ahead ls (z ∷ seen) ys ≤ ahead ls seen ys → pick (a || b) 0 (weight tasks_of (find_library ls y)) + ahead ls (z ∷ seen) ys ≤ pick b 0 (weight tasks_of (find_library ls y)) + ahead ls seen ys
+      go : (a b : Bool) → ahead ls (z ∷ seen) ys ≤ ahead ls seen ys → cond (a || b) 0 (weight tasks_of (find_library ls y)) + ahead ls (z ∷ seen) ys ≤ cond b 0 (weight tasks_of (find_library ls y)) + ahead ls seen ys
       go true true h = omega arith
       go true false h = omega arith
       go false true h = omega arith
       go false false h = omega arith
 
   -- one that is entered takes its tasks away
-  ahead_drop : (z : Name) (l : Library) (seen ys : List Name) → find_library ls z ≡ some l → among z seen ≡ false → among z ys ≡ true → ahead ls (z ∷ seen) ys + tasks_of l ≤ ahead ls seen ys
+  ahead_drop : (z : Name) (l : Library) (seen ys : List Name) → find_library ls z ≡ Some l → among z seen ≡ false → among z ys ≡ true → ahead ls (z ∷ seen) ys + tasks_of l ≤ ahead ls seen ys
   ahead_drop z l seen [] q e h = among_none z h
   ahead_drop z l seen (y ∷ ys) q e h = ⊎_elim (λ p. here p (ahead_less z seen ys)) (λ p. there (same y z) (among y seen) (ahead_drop z l seen ys q e p)) (among_cases z y ys h)
     where
       here : z ≡ y → ahead ls (z ∷ seen) ys ≤ ahead ls seen ys → ahead ls (z ∷ seen) (y ∷ ys) + tasks_of l ≤ ahead ls seen (y ∷ ys)
-      here p r = subst (λ v. pick (same v z || among v seen) 0 (weight tasks_of (find_library ls v)) + ahead ls (z ∷ seen) ys + tasks_of l ≤ pick (among v seen) 0 (weight tasks_of (find_library ls v)) + ahead ls seen ys) p (rw (same_self z, e, q) (omega arith))
+      here p r = subst (λ v. cond (same v z || among v seen) 0 (weight tasks_of (find_library ls v)) + ahead ls (z ∷ seen) ys + tasks_of l ≤ cond (among v seen) 0 (weight tasks_of (find_library ls v)) + ahead ls seen ys) p (rw (same_self z, e, q) (omega arith))
 
-      there : (a b : Bool) → ahead ls (z ∷ seen) ys + tasks_of l ≤ ahead ls seen ys → pick (a || b) 0 (weight tasks_of (find_library ls y)) + ahead ls (z ∷ seen) ys + tasks_of l ≤ pick b 0 (weight tasks_of (find_library ls y)) + ahead ls seen ys
+      there : (a b : Bool) → ahead ls (z ∷ seen) ys + tasks_of l ≤ ahead ls seen ys → cond (a || b) 0 (weight tasks_of (find_library ls y)) + ahead ls (z ∷ seen) ys + tasks_of l ≤ cond b 0 (weight tasks_of (find_library ls y)) + ahead ls seen ys
       there true true h = omega arith
       there true false h = omega arith
       there false true h = omega arith
@@ -164,14 +163,14 @@ module _ (ls : List Library) (x : Name) where
   depth_seen : (n : ℕ) (z : Name) (ts : List Task) (seen done : List Name) → among z seen ≡ true → depth (suc n) ls (enter z ∷ ts) seen done ≡ depth n ls ts seen done
   depth_seen n z ts seen done e = pick_true (among z seen) _ _ e
 
-  depth_entered : (n : ℕ) (z : Name) (l : Library) (ts : List Task) (seen done : List Name) → among z seen ≡ false → find_library ls z ≡ some l → depth (suc n) ls (enter z ∷ ts) seen done ≡ depth n ls (enters l.needs ++ (leave z ∷ ts)) (z ∷ seen) done
+  depth_entered : (n : ℕ) (z : Name) (l : Library) (ts : List Task) (seen done : List Name) → among z seen ≡ false → find_library ls z ≡ Some l → depth (suc n) ls (enter z ∷ ts) seen done ≡ depth n ls (enters l.needs ++ (leave z ∷ ts)) (z ∷ seen) done
   depth_entered n z l ts seen done e q = pick_false (among z seen) _ _ e ∙ ap (λ ws. depth n ls (ws ++ (leave z ∷ ts)) (z ∷ seen) done) (opt_some (find_library ls z) [] (λ l. enters l.needs) l q)
 
   length_enters : (ws : List Name) → length (enters ws) ≡ length ws
   length_enters [] = refl
   length_enters (w ∷ ws) = ap suc (length_enters ws)
 
-  found_at : (ys : List Name) → Found ls ys → (z : Name) → among z ys ≡ true → (l : Library) × (find_library ls z ≡ some l)
+  found_at : (ys : List Name) → Found ls ys → (z : Name) → among z ys ≡ true → (l : Library) × (find_library ls z ≡ Some l)
   found_at [] f z e = among_none z e
   found_at (y ∷ ys) f z e = ⊎_elim (λ p. rw p f.0) (found_at ys f.1 z) (among_cases z y ys e)
 
@@ -183,7 +182,7 @@ module _ (ls : List Library) (x : Name) where
   walked ys c (suc n) (enter z ∷ ts) seen done r h = ⊎_elim (λ e. subst (λ d. (last : List Name) × Walks ls x [] last d) (sym (depth_seen n z ts seen done e)) (walked ys c n ts seen done (skipped z ts seen done r e) (omega arith))) (λ e. let z_in = c.each z r.nested.0 in let f = found_at ys c.found z z_in in subst (λ d. (last : List Name) × Walks ls x [] last d) (sym (depth_entered n z f.0 ts seen done e f.1)) (walked ys c n (enters f.0.needs ++ (leave z ∷ ts)) (z ∷ seen) done (entering z f.0 ts seen done r e f.1) (omega (arith, h, ahead_drop z f.0 seen ys f.1 e z_in, length-append (enters f.0.needs) (leave z ∷ ts), length_enters f.0.needs)))) (cases_Bool (among z seen))
 
   -- the root, entered
-  begun : (l : Library) → find_library ls x ≡ some l → Walks ls x (enters l.needs ++ (leave x ∷ [])) (x ∷ []) []
+  begun : (l : Library) → find_library ls x ≡ Some l → Walks ls x (enters l.needs ++ (leave x ∷ [])) (x ∷ []) []
   begun l e = record { root = among_here x []; parted = λ y h. inr (subst (λ es. among y es ≡ true) (sym same_entered) h); done_seen = λ y h. among_none y h; entered_seen = λ y h. subst (λ es. among y es ≡ true) same_entered h; done_once = tt; entered_once = subst Once (sym same_entered) (refl, tt); apart = λ y h. refl; reached = λ y h. among_none y h; nested = nested_entered ls x l.needs x [] (λ w h. (l, e, h)) (itself, (λ z h. among_none z h), tt); awaits = awaits_entered ls (x ∷ []) l.needs x [] (λ w n. inl (ap (λ m. among w m.needs) (some_is (sym e ∙ n.1)) ∙ n.2)) tt; needs_seen = λ y z h n. among_none y h; needs_first = λ y z h n. among_none y h }
     where
       same_entered : entered (enters l.needs ++ (leave x ∷ [])) ≡ x ∷ []
@@ -208,7 +207,7 @@ order_right ls x ys e = subst (InOrder ls ys) (sym first) (record { once = w.1.d
     c : ClosedFrom ls x ys
     c = closure_reaches.has ls x ys e
 
-    f : (l : Library) × (find_library ls x ≡ some l)
+    f : (l : Library) × (find_library ls x ≡ Some l)
     f = found_at ls x ys c.found x (c.each x itself)
 
     n : ℕ

@@ -1,6 +1,6 @@
 -- What is retained is bound to nothing that leaves.
+use Rattle.std.specs.Prelude.{cond}
 use Rattle.std.proofs.Common.{◌≡◌, ℕ, zero, suc, ◌≤◌, Bool, true, false, eqb, List, [], ◌∷◌, length, sym, refl, ap, ◌∙◌, subst, ⊎_elim, arith}
-use Rattle.base.specs.Choices.{pick}
 use Rattle.base.specs.Lists.{has, Within}
 use Rattle.base.proofs.Sets.{has_here, has_there, within_or, miss, miss_le, miss_less, miss_none}
 use Rattle.links.specs.Links.{Module}
@@ -12,15 +12,15 @@ pub joins_old : (xs seen : List ℕ) → Within seen (joins xs seen)
 joins_old [] seen j e = e
 joins_old (x ∷ xs) seen j e = go (has x seen) refl (joins_old xs seen j) (joins_old xs (x ∷ seen) j)
   where
-    go : (b : Bool) → has x seen ≡ b → (has j seen ≡ true → has j (joins xs seen) ≡ true) → (has j (x ∷ seen) ≡ true → has j (joins xs (x ∷ seen)) ≡ true) → has j (joins xs (pick b seen (x ∷ seen))) ≡ true
+    go : (b : Bool) → has x seen ≡ b → (has j seen ≡ true → has j (joins xs seen) ≡ true) → (has j (x ∷ seen) ≡ true → has j (joins xs (x ∷ seen)) ≡ true) → has j (joins xs (cond b seen (x ∷ seen))) ≡ true
     go true q r s = r e
     go false q r s = s (has_there j x seen e)
 
 pub joins_new : (xs seen : List ℕ) → Within xs (joins xs seen)
 joins_new [] seen j e = let z : ◌≡◌ {A = ℕ} 0 1 = cc in absurd (omega arith)
-joins_new (x ∷ xs) seen j e = ⊎_elim (λ q. first (eqb-true j x q) (has x seen) refl) (λ q. joins_new xs (pick (has x seen) seen (x ∷ seen)) j q) (or_cases (eqb j x) (has j xs) e)
+joins_new (x ∷ xs) seen j e = ⊎_elim (λ q. first (eqb-true j x q) (has x seen) refl) (λ q. joins_new xs (cond (has x seen) seen (x ∷ seen)) j q) (or_cases (eqb j x) (has j xs) e)
   where
-    first : j ≡ x → (b : Bool) → has x seen ≡ b → has j (joins xs (pick b seen (x ∷ seen))) ≡ true
+    first : j ≡ x → (b : Bool) → has x seen ≡ b → has j (joins xs (cond b seen (x ∷ seen))) ≡ true
     first q true p = joins_old xs seen j (rw q p)
     first q false p = joins_old xs (x ∷ seen) j (or_left (eqb j x) (has j seen) (eq-eqb j x q))
 

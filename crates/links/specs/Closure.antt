@@ -1,19 +1,18 @@
 -- The closure of a library under needs, and the order in which its libraries are initialised.
-use Rattle.std.specs.Prelude.{ℕ, zero, suc, ◌+◌, List, [], ◌∷◌, ◌++◌, length}
-use Rattle.std.proofs.Math.Option.{Option, some, none}
-use Rattle.base.specs.Choices.{pick, opt, on_some}
+use Rattle.std.specs.Prelude.{ℕ, zero, suc, ◌+◌, List, [], ◌∷◌, ◌++◌, length, None, Option, Some, cond}
+use Rattle.base.specs.Choices.{opt, on_some}
 use Rattle.base.specs.Names.{Name, among}
 use Rattle.library.specs.Library.{Library, find_library}
 
 -- the names of xs that aren't seen yet, each once
 abbrev pub news : List Name → List Name → List Name
 news [] seen = []
-news (x ∷ xs) seen = pick (among x seen) (news xs seen) (x ∷ news xs (x ∷ seen))
+news (x ∷ xs) seen = cond (among x seen) (news xs seen) (x ∷ news xs (x ∷ seen))
 
 -- breadth first, from the names in the queue on; none if a library isn't in the text. n bounds the libraries taken from the queue
 abbrev pub breadth : ℕ → List Library → List Name → List Name → Option (List Name)
-breadth n ls [] seen = some seen
-breadth zero ls (x ∷ xs) seen = none
+breadth n ls [] seen = Some seen
+breadth zero ls (x ∷ xs) seen = None
 breadth (suc n) ls (x ∷ xs) seen = on_some (find_library ls x) (λ l. breadth n ls (xs ++ news l.needs seen) (seen ++ news l.needs seen))
 
 -- a library, what it needs, what these need, and so on
@@ -35,7 +34,7 @@ abbrev pub depth : ℕ → List Library → List Task → List Name → List Nam
 depth zero ls ts seen done = done
 depth (suc n) ls [] seen done = done
 depth (suc n) ls (leave x ∷ ts) seen done = depth n ls ts seen (done ++ (x ∷ []))
-depth (suc n) ls (enter x ∷ ts) seen done = pick (among x seen) (depth n ls ts seen done) (depth n ls (opt (find_library ls x) [] (λ l. enters l.needs) ++ (leave x ∷ ts)) (x ∷ seen) done)
+depth (suc n) ls (enter x ∷ ts) seen done = cond (among x seen) (depth n ls ts seen done) (depth n ls (opt (find_library ls x) [] (λ l. enters l.needs) ++ (leave x ∷ ts)) (x ∷ seen) done)
 
 -- how many needs lines the text has
 abbrev pub all_needs : List Library → ℕ

@@ -1,8 +1,7 @@
 -- What holds of closures, loads and closes.
-use Rattle.std.specs.Prelude.{◌≡◌, ℕ, zero, suc, ◌+◌, ◌<◌, ◌≤◌, Bool, true, not, ◌&&◌, List, [], ◌∷◌, ◌++◌, map, length}
-use Rattle.std.proofs.Math.Option.{some}
-use Rattle.base.specs.Choices.{has_value}
-use Rattle.base.specs.Lists.{has, keep, Each, Within}
+use Rattle.std.specs.List.{AllByRecursion}
+use Rattle.std.specs.Prelude.{◌≡◌, ℕ, zero, suc, ◌+◌, ◌<◌, ◌≤◌, Bool, true, not, ◌&&◌, List, [], ◌∷◌, ◌++◌, map, length, Some, filter, is_some}
+use Rattle.base.specs.Lists.{has, Within}
 use Rattle.base.specs.Names.{Name, Once}
 use Rattle.library.specs.Library.{Symbol, Library, find_library}
 use Rattle.links.specs.Closure.{closure}
@@ -13,11 +12,11 @@ use Rattle.links.specs.Close.{joins, open_members, hosts, bound_of, retained, le
 
 -- each name is that of a library of the text
 abbrev pub Found : List Library → List Name → Type 0
-Found ls xs = Each (λ x. (l : Library) × (find_library ls x ≡ some l)) xs
+Found ls xs = AllByRecursion (λ x. (l : Library) × (find_library ls x ≡ Some l)) xs
 
 -- a closure has each library once, and only such as the text has
 abbrev pub ClosureOnce : Type 0
-ClosureOnce = (ls : List Library) (x : Name) (ys : List Name) → closure ls x ≡ some ys → Found ls ys × Once ys
+ClosureOnce = (ls : List Library) (x : Name) (ys : List Name) → closure ls x ≡ Some ys → Found ls ys × Once ys
 
 -- resolve goes by the modules' libraries, lives and groups alone
 abbrev pub ResolveStable : Type 0
@@ -38,7 +37,7 @@ Rising u (a ∷ bs) (z ∷ zs) e = (u ≤ a) × Rising (suc (a + z)) bs zs e
 -- a module as it comes in: of the text, live, of the group g
 pub record Comes (ls : List Library) (g : ℕ) (y : Module) : Type 0 where
   pub name : Name
-  pub found : find_library ls name ≡ some y.lib
+  pub found : find_library ls name ≡ Some y.lib
   pub live : y.live ≡ true
   pub group : y.group ≡ g
 
@@ -52,7 +51,7 @@ pub record Loads (ls : List Library) (m : Room) (k : Links) (l : Loaded) : Type 
   pub fresh : List Module
   pub modules : l.links.modules ≡ k.modules ++ fresh
   pub new : l.new ≡ up_from (length k.modules) (length fresh)
-  pub come : Each (Comes ls (length k.groups)) fresh
+  pub come : AllByRecursion (Comes ls (length k.groups)) fresh
   pub bound : BoundFrom l.links (length k.modules) fresh
   pub rising : Rising k.used l.starts (map cells_in fresh) l.links.used
   pub fits : l.links.used ≤ m.words
@@ -63,7 +62,7 @@ pub record Loads (ls : List Library) (m : Room) (k : Links) (l : Loaded) : Type 
 
 -- every load does so
 abbrev pub LoadAppends : Type 0
-LoadAppends = (ls : List Library) (m : Room) (x : Name) (global : Bool) (k : Links) (l : Loaded) → load ls m x global k ≡ some l → Loads ls m k l
+LoadAppends = (ls : List Library) (m : Room) (x : Name) (global : Bool) (k : Links) (l : Loaded) → load ls m x global k ≡ Some l → Loads ls m k l
 
 -- every module that one is bound to is there
 abbrev pub Sound : ℕ → List Module → Type 0
@@ -75,7 +74,7 @@ RetainedClosed = (ms : List Module) (js : List ℕ) → Sound (length ms) ms →
 
 -- every number of a module that is kept is that of a module
 abbrev pub Below : ℕ → List ℕ → Type 0
-Below n js = Each (λ j. j < n) js
+Below n js = AllByRecursion (λ j. j < n) js
 
 -- one binding for each cell of a module, to modules that are there
 pub record Bindings (n : ℕ) (x : Module) : Type 0 where
@@ -84,13 +83,13 @@ pub record Bindings (n : ℕ) (x : Module) : Type 0 where
 
 -- what every state of links has: bindings, members and order name modules that are there
 pub record Linked (k : Links) : Type 0 where
-  pub bound : Each (Bindings (length k.modules)) k.modules
-  pub members : Each (λ g. Below (length k.modules) g.members) k.groups
+  pub bound : AllByRecursion (Bindings (length k.modules)) k.modules
+  pub members : AllByRecursion (λ g. Below (length k.modules) g.members) k.groups
   pub order : Below (length k.modules) k.order
 
 -- loads, binds, closes and unloads keep it so
 pub record KeepsLinked : Type 0 where
-  pub by_load : (ls : List Library) (m : Room) (x : Name) (global : Bool) (k : Links) (l : Loaded) → Linked k → load ls m x global k ≡ some l → Linked l.links
+  pub by_load : (ls : List Library) (m : Room) (x : Name) (global : Bool) (k : Links) (l : Loaded) → Linked k → load ls m x global k ≡ Some l → Linked l.links
   pub by_slot : (k : Links) (me j : ℕ) (p : Place) → Linked k → p.host < length k.modules → Linked (slot_bound k me j p)
   pub by_close : (k : Links) (h : ℕ) → Linked k → Linked (close_group k h)
   pub by_unload : (k : Links) (js : List ℕ) → Linked k → Linked (unload js k)
@@ -104,8 +103,8 @@ pub record Retains (k : Links) (s : List ℕ) : Type 0 where
 
 -- tells what leaves
 abbrev pub LeavingBySet : Type 0
-LeavingBySet = (k : Links) (s : List ℕ) → Retains k s → leaving k ≡ keep (λ j. has_value (live_at k.modules j) && not (has j s)) k.order
+LeavingBySet = (k : Links) (s : List ℕ) → Retains k s → leaving k ≡ filter (λ j. is_some (live_at k.modules j) && not (has j s)) k.order
 
 -- and it may grow by what a member is bound to
 abbrev pub RetainsMore : Type 0
-RetainsMore = (k : Links) (s : List ℕ) (i : ℕ) (x : Module) → Linked k → Within s (retained (length k.modules) k.modules (joins (open_members k.groups) [])) → has i s ≡ true → live_at k.modules i ≡ some x → Within (hosts x.bound) (retained (length k.modules) k.modules (joins (open_members k.groups) []))
+RetainsMore = (k : Links) (s : List ℕ) (i : ℕ) (x : Module) → Linked k → Within s (retained (length k.modules) k.modules (joins (open_members k.groups) [])) → has i s ≡ true → live_at k.modules i ≡ Some x → Within (hosts x.bound) (retained (length k.modules) k.modules (joins (open_members k.groups) []))

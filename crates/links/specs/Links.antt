@@ -1,6 +1,5 @@
 -- Modules and groups: what is loaded, and what it is bound to. No contents of cells, no addresses.
-use Rattle.std.specs.Prelude.{ℕ, Bool, List, length}
-use Rattle.std.proofs.Math.Option.{Option}
+use Rattle.std.specs.Prelude.{ℕ, Bool, List, length, Option}
 use Rattle.library.specs.Library.{Library}
 
 -- a place: a module and a cell of it

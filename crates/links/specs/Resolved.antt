@@ -1,8 +1,7 @@
 -- What a symbol means: the first definition that can be seen.
-use Rattle.std.specs.Prelude.{◌≡◌, ℕ, true, List, ◌∷◌, ◌++◌, length, ◌==◌}
-use Rattle.std.proofs.Math.Option.{Option, some, none}
+use Rattle.std.specs.List.{AllByRecursion}
+use Rattle.std.specs.Prelude.{◌≡◌, ℕ, true, List, ◌∷◌, ◌++◌, length, ◌==◌, None, Option, Some}
 use Rattle.base.specs.Choices.{on_some}
-use Rattle.base.specs.Lists.{Each}
 use Rattle.base.specs.Names.{Name}
 use Rattle.library.specs.Library.{Symbol, any_version}
 use Rattle.links.specs.Symbols.{find_def}
@@ -19,12 +18,12 @@ pub record FirstOf (ms : List Module) (me : ℕ) (s : Symbol) (js : List ℕ) (p
   pub earlier : List ℕ
   pub later : List ℕ
   pub stands : js ≡ earlier ++ (p.host ∷ later)
-  pub nothing : Each (λ j. offers ms me s j ≡ none) earlier
-  pub cell : offers ms me s p.host ≡ some p.cell
+  pub nothing : AllByRecursion (λ j. offers ms me s j ≡ None) earlier
+  pub cell : offers ms me s p.host ≡ Some p.cell
 
 -- a symbol means the first definition in the module's scope, which is live; it means nothing only where none of the scope offers any; find goes through an open group in the same way, with the eyes of none of its modules
 pub record ResolveFirst : Type 0 where
-  pub found : (k : Links) (me : ℕ) (s : Symbol) (p : Place) → resolve k me s ≡ some p → FirstOf k.modules me s (scope k me) p
-  pub nowhere : (k : Links) (me : ℕ) (s : Symbol) → resolve k me s ≡ none → Each (λ j. offers k.modules me s j ≡ none) (scope k me)
-  pub live : (k : Links) (me : ℕ) (s : Symbol) (p : Place) → resolve k me s ≡ some p → (x : Module) × (live_at k.modules p.host ≡ some x)
-  pub in_group : (k : Links) (h : ℕ) (x : Name) (p : Place) → found_in k h x ≡ some p → (is_open k h ≡ true) × FirstOf k.modules (length k.modules) (record { name = x; version = any_version }) (members_of k.groups h) p
+  pub found : (k : Links) (me : ℕ) (s : Symbol) (p : Place) → resolve k me s ≡ Some p → FirstOf k.modules me s (scope k me) p
+  pub nowhere : (k : Links) (me : ℕ) (s : Symbol) → resolve k me s ≡ None → AllByRecursion (λ j. offers k.modules me s j ≡ None) (scope k me)
+  pub live : (k : Links) (me : ℕ) (s : Symbol) (p : Place) → resolve k me s ≡ Some p → (x : Module) × (live_at k.modules p.host ≡ Some x)
+  pub in_group : (k : Links) (h : ℕ) (x : Name) (p : Place) → found_in k h x ≡ Some p → (is_open k h ≡ true) × FirstOf k.modules (length k.modules) (record { name = x; version = any_version }) (members_of k.groups h) p

@@ -1,7 +1,5 @@
 -- Which definition of a library a symbol means.
-use Rattle.std.specs.Prelude.{ℕ, Bool, not, ◌&&◌, ◌||◌, List, [], ◌∷◌}
-use Rattle.std.proofs.Math.Option.{Option, some, none}
-use Rattle.base.specs.Choices.{pick}
+use Rattle.std.specs.Prelude.{ℕ, Bool, not, ◌&&◌, ◌||◌, List, [], ◌∷◌, None, Option, Some, cond}
 use Rattle.base.specs.Names.{same}
 use Rattle.library.specs.Library.{Symbol, Definition, any_version}
 
@@ -11,5 +9,5 @@ matches mine s d = same s.name d.symbol.name && ((same s.version any_version || 
 
 -- the cell of the first definition that matches
 abbrev pub find_def : Bool → List Definition → Symbol → Option ℕ
-find_def mine [] s = none
-find_def mine (d ∷ ds) s = pick (matches mine s d) (some d.cell) (find_def mine ds s)
+find_def mine [] s = None
+find_def mine (d ∷ ds) s = cond (matches mine s d) (Some d.cell) (find_def mine ds s)

@@ -1,7 +1,5 @@
 -- What holds of the links of every program, always.
-use Rattle.std.specs.Prelude.{◌≡◌, ℕ, Bool, true, false, ◌⊎◌, List, [], ◌∷◌, length}
-use Rattle.std.proofs.Math.Option.{some}
-use Rattle.base.specs.Choices.{has_value}
+use Rattle.std.specs.Prelude.{◌≡◌, ℕ, Bool, true, false, ◌⊎◌, List, [], ◌∷◌, length, Some, is_some}
 use Rattle.base.specs.Lists.{has, Within}
 use Rattle.base.specs.Names.{Name}
 use Rattle.library.specs.Library.{Library}
@@ -23,11 +21,11 @@ pub record StaysLeast : Type 0 where
 
 -- the module i is there
 abbrev pub Live : List Module → ℕ → Type 0
-Live ms i = has_value (live_at ms i) ≡ true
+Live ms i = is_some (live_at ms i) ≡ true
 
 -- no two live modules have one name
 abbrev pub OneEach : List Module → Type 0
-OneEach ms = (i j : ℕ) (x y : Module) → live_at ms i ≡ some x → live_at ms j ≡ some y → x.lib.name ≡ y.lib.name → i ≡ j
+OneEach ms = (i j : ℕ) (x y : Module) → live_at ms i ≡ Some x → live_at ms j ≡ Some y → x.lib.name ≡ y.lib.name → i ≡ j
 
 -- no number twice
 abbrev pub Distinct : List ℕ → Type 0
@@ -38,7 +36,7 @@ Distinct (j ∷ js) = (has j js ≡ false) × Distinct js
 pub record Whole (k : Links) : Type 0 where
   pub linked : Linked k
   -- what is live is bound only to what is live
-  pub bound : (i j : ℕ) (x : Module) → live_at k.modules i ≡ some x → has j (hosts x.bound) ≡ true → Live k.modules j
+  pub bound : (i j : ℕ) (x : Module) → live_at k.modules i ≡ Some x → has j (hosts x.bound) ≡ true → Live k.modules j
   -- members of open groups are live
   pub members : (j : ℕ) → has j (open_members k.groups) ≡ true → Live k.modules j
   pub one_each : OneEach k.modules
@@ -49,7 +47,7 @@ pub record Whole (k : Links) : Type 0 where
 -- loads, binds, closes and unloads keep it so; of what is live, those that are to go and those that stay must be all
 pub record KeepsWhole : Type 0 where
   pub at_first : (u : ℕ) → Whole (record { modules = []; groups = []; order = []; used = u })
-  pub by_load : (ls : List Library) (m : Room) (x : Name) (global : Bool) (k : Links) (l : Loaded) → Whole k → load ls m x global k ≡ some l → Whole l.links
+  pub by_load : (ls : List Library) (m : Room) (x : Name) (global : Bool) (k : Links) (l : Loaded) → Whole k → load ls m x global k ≡ Some l → Whole l.links
   pub by_slot : (k : Links) (me j : ℕ) (p : Place) → Whole k → Live k.modules p.host → Whole (slot_bound k me j p)
   pub by_close : (k : Links) (h : ℕ) → Whole k → Whole (close_group k h)
   pub by_unload : (k : Links) (js : List ℕ) → Whole k → ((i : ℕ) → Live k.modules i → (has i js ≡ true) ⊎ (has i (staying k) ≡ true)) → Whole (unload js k)

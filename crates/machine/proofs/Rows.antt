@@ -1,16 +1,15 @@
 -- Rows of words: past their end, as stacks, and in use from the start.
+use Rattle.std.specs.Prelude.{None, slice_get, slice_set}
 use Rattle.std.proofs.Common.{◌≡◌, ℕ, zero, suc, ◌+◌, ◌-◌, ◌<◌, ◌≤◌, min, List, [], ◌∷◌, length, get_or, take, drop, set, sym, refl, ap, ◌∙◌, ⊎_elim, arith, length-set}
-use mathlib.Core.Option.{none}
 use Rattle.std.proofs.lemmas.List.{drop-set, drop_more, drop_all, take_all}
 use Rattle.std.proofs.lemmas.Bool.{cases_lt}
-use Rattle.base.specs.Lists.{nth, put}
 
-pub nth_past : (xs : List ℕ) (i : ℕ) → length xs ≤ i → nth xs i ≡ none
+pub nth_past : (xs : List ℕ) (i : ℕ) → length xs ≤ i → slice_get xs i ≡ None
 nth_past [] i h = refl
 nth_past (x ∷ xs) zero h = absurd (omega arith)
 nth_past (x ∷ xs) (suc i) h = nth_past xs i (omega arith)
 
-pub put_past : (xs : List ℕ) (i v : ℕ) → length xs ≤ i → put xs i v ≡ xs
+pub put_past : (xs : List ℕ) (i v : ℕ) → length xs ≤ i → slice_set xs i v ≡ xs
 put_past [] i v h = refl
 put_past (x ∷ xs) zero v h = absurd (omega arith)
 put_past (x ∷ xs) (suc i) v h = ap (λ ys. x ∷ ys) (put_past xs i v (omega arith))

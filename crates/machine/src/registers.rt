@@ -1,13 +1,11 @@
 // Eight registers.
-ghost use Rattle.std.specs.Prelude.{◌≡◌};
-ghost use Rattle.base.specs.Choices.{found};
-ghost use Rattle.base.specs.Lists.{nth, put};
+ghost use Rattle.std.specs.Prelude.{◌≡◌, slice_get, slice_set};
 
 use crate::parts::Registers;
 
 impl Registers {
     pub fn read(&self, r: u8) -> Option<u64>
-        ensures { found result ≡ nth self.now.values r }
+        ensures { result ≡ slice_get self.now.values r }
     {
         let i = r as usize;
         if i < 8 { Some(self.values[i]) } else { None }
@@ -15,7 +13,7 @@ impl Registers {
 
     // What is put into a register that there isn't is lost.
     pub fn write(&mut self, r: u8, x: u64)
-        ensures { self.new.values ≡ put self.old.values r x }
+        ensures { self.new.values ≡ slice_set self.old.values r x }
     {
         let i = r as usize;
         if i < 8 {

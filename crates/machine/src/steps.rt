@@ -1,7 +1,5 @@
 // The arms of a step.
-ghost use Rattle.std.specs.Prelude.{◌≡◌, ◌<◌, length, MatchOption};
-ghost use Rattle.std.proofs.Math.Option.{some, none};
-ghost use Rattle.base.specs.Lists.{nth};
+ghost use Rattle.std.specs.Prelude.{◌≡◌, ◌<◌, length, MatchOption, None, Some, slice_get};
 ghost use Rattle.processor.specs.Cpu.{Continue, sets, goes, there, stores, calls, computes, through, returns, pushes, pops, shows, reads, asks, word};
 ghost use Rattle.processor.specs.Operations.{acts};
 ghost use Rattle.machine.specs.Arithmetic.{outcome_of};
@@ -19,7 +17,7 @@ const ADDRESSES: u64 = 4294967296;
 impl<'a> Machine<'a> {
     // The word at an address, if there is one.
     pub(crate) fn word(&self, a: u64) -> Option<u64>
-        ensures { MatchOption result (nth self.now.words.now a ≡ none) (λ x. (nth self.now.words.now a ≡ some x) × (a < length self.now.words.now)) }
+        ensures { MatchOption result (slice_get self.now.words.now a ≡ None) (λ x. (slice_get self.now.words.now a ≡ Some x) × (a < length self.now.words.now)) }
     {
         let i = a as usize;
         if i < self.words.len() {

@@ -1,7 +1,7 @@
 -- What a step can change, and what then holds of whole runs.
+use Rattle.std.specs.Prelude.{None, Option, Some, cond}
 use Rattle.std.proofs.Common.{◌≡◌, ℕ, zero, suc, ◌+◌, ◌≤◌, Bool, true, false, eqb, List, [], ◌∷◌, length, drop, sym, refl, subst, ⊎_elim, arith}
-use mathlib.Core.Option.{Option, some, none}
-use Rattle.base.specs.Choices.{pick, opt, on_some}
+use Rattle.base.specs.Choices.{opt, on_some}
 use Rattle.base.specs.Names.{Name}
 use Rattle.library.specs.Library.{Symbol, Instruction, Set, Get, Sto, Own, Add, Sub, Mul, Less, Same, Move, Jump, If0, Call, Callr, Ret, Push, Pop, Out, In, Open, Find, Close, End, Library}
 use Rattle.links.specs.Links.{Place, Room}
@@ -35,10 +35,10 @@ pub data Change (ls : List Library) (m : Room) (s : State) : Next → Type 0 whe
   is_lost : Change ls m s (lost s)
   has_ended : (n : ℕ) → Change ls m s (ended n s)
   runs : (c : Core) → Framed s c → Change ls m s (goes (with_core s c))
-  writes : (c : Core) (i k : ℕ) (old v : Value) → held_at s i k ≡ some (val old) → c.frames ≡ s.core.frames → Change ls m s (goes (with_core (with_links s s.links (put_cell s.cells i k (val v))) c))
+  writes : (c : Core) (i k : ℕ) (old v : Value) → held_at s i k ≡ Some (val old) → c.frames ≡ s.core.frames → Change ls m s (goes (with_core (with_links s s.links (put_cell s.cells i k (val v))) c))
   shows : (c : Core) (is : List ℕ) (o : ℕ) → c.frames ≡ s.core.frames → Change ls m s (goes (with_core (showing s is o) c))
-  opens_group : (c : Core) (x : Name) (global : Bool) (l : Loaded) (r : ℕ) (v : Value) (p : Place) → load ls m x global s.links ≡ some l → c.frames ≡ pending l.calls (gives r v p) ∷ s.core.frames → Change ls m s (goes (with_core (loaded s l) c))
-  binds_slot : (c : Core) (k : ℕ) (y : Symbol) (p q : Place) → own s k ≡ some (link y none) → resolve s.links s.core.here.host y ≡ some p → c.frames ≡ back q ∷ s.core.frames → Change ls m s (goes (with_core (with_links s (slot_bound s.links s.core.here.host k p) (put_cell s.cells s.core.here.host k (link y (some (place p.host p.cell))))) c))
+  opens_group : (c : Core) (x : Name) (global : Bool) (l : Loaded) (r : ℕ) (v : Value) (p : Place) → load ls m x global s.links ≡ Some l → c.frames ≡ pending l.calls (gives r v p) ∷ s.core.frames → Change ls m s (goes (with_core (loaded s l) c))
+  binds_slot : (c : Core) (k : ℕ) (y : Symbol) (p q : Place) → own s k ≡ Some (link y None) → resolve s.links s.core.here.host y ≡ Some p → c.frames ≡ back q ∷ s.core.frames → Change ls m s (goes (with_core (with_links s (slot_bound s.links s.core.here.host k p) (put_cell s.cells s.core.here.host k (link y (Some (place p.host p.cell))))) c))
   -- a close begins: finis are pending; when they are through, it is done
   begins_close : (c : Core) (h r : ℕ) (p : Place) → may_close s h ≡ true → c.frames ≡ pending (fini_calls (close_group s.links h) (leaving (close_group s.links h))) (drops (leaving (close_group s.links h)) r p) ∷ s.core.frames → Change ls m s (goes (with_core (with_links s (close_group s.links h) s.cells) c))
   does_close : (c : Core) (js : List ℕ) (r : ℕ) (p : Place) (fs : List Frame) → s.core.frames ≡ pending [] (drops js r p) ∷ fs → c.frames ≡ fs → Change ls m s (goes (with_core (with_links s (unload js s.links) s.cells) c))
@@ -48,22 +48,22 @@ module _ (ls : List Library) (m : Room) (s : State) where
   C = Change ls m s
 
   with_val : (o : Option Value) (f : Value → Next) → ((v : Value) → C (f v)) → C (on_val s o f)
-  with_val none f h = no_meaning
-  with_val (some v) f h = h v
+  with_val None f h = no_meaning
+  with_val (Some v) f h = h v
 
   with_num : (o : Option Value) (f : ℕ → Next) → ((n : ℕ) → C (f n)) → C (on_num s o f)
-  with_num none f h = no_meaning
-  with_num (some (num n)) f h = h n
-  with_num (some (place i k)) f h = no_meaning
+  with_num None f h = no_meaning
+  with_num (Some (num n)) f h = h n
+  with_num (Some (place i k)) f h = no_meaning
 
   with_label : (o : Option Held) (f : Name → Next) → ((x : Name) → C (f x)) → C (on_label s o f)
-  with_label none f h = no_meaning
-  with_label (some (val v)) f h = no_meaning
-  with_label (some (link y o)) f h = no_meaning
-  with_label (some (label x)) f h = h x
-  with_label (some (code o)) f h = no_meaning
+  with_label None f h = no_meaning
+  with_label (Some (val v)) f h = no_meaning
+  with_label (Some (link y o)) f h = no_meaning
+  with_label (Some (label x)) f h = h x
+  with_label (Some (code o)) f h = no_meaning
 
-  picks : (b : Bool) (x y : Next) → (b ≡ true → C x) → C y → C (pick b x y)
+  picks : (b : Bool) (x y : Next) → (b ≡ true → C x) → C y → C (cond b x y)
   picks true x y p q = p refl
   picks false x y p q = q
 
@@ -89,35 +89,35 @@ module _ (ls : List Library) (m : Room) (s : State) where
   calls_it (num n) = no_meaning
   calls_it (place i k) = runs _ (noted _ refl)
 
-  binds_it : (k : ℕ) (y : Symbol) → own s k ≡ some (link y none) → (o : Option Place) → resolve s.links s.core.here.host y ≡ o → C (opt o (lost s) (binds_to s k y))
-  binds_it k y e none q = is_lost
-  binds_it k y e (some p) q = binds_slot _ k y p _ e q refl
+  binds_it : (k : ℕ) (y : Symbol) → own s k ≡ Some (link y None) → (o : Option Place) → resolve s.links s.core.here.host y ≡ o → C (opt o (lost s) (binds_to s k y))
+  binds_it k y e None q = is_lost
+  binds_it k y e (Some p) q = binds_slot _ k y p _ e q refl
 
   calls_slot : (k : ℕ) (o : Option Held) → own s k ≡ o → C (calls_through s k o)
-  calls_slot k none e = no_meaning
-  calls_slot k (some (val v)) e = no_meaning
-  calls_slot k (some (link y (some v))) e = calls_it v
-  calls_slot k (some (link y none)) e = binds_it k y e (resolve s.links s.core.here.host y) refl
-  calls_slot k (some (label x)) e = no_meaning
-  calls_slot k (some (code o)) e = no_meaning
+  calls_slot k None e = no_meaning
+  calls_slot k (Some (val v)) e = no_meaning
+  calls_slot k (Some (link y (Some v))) e = calls_it v
+  calls_slot k (Some (link y None)) e = binds_it k y e (resolve s.links s.core.here.host y) refl
+  calls_slot k (Some (label x)) e = no_meaning
+  calls_slot k (Some (code o)) e = no_meaning
 
   opens_it : (r : ℕ) (global : Bool) (x : Name) → C (opens ls m s r global x)
   opens_it r global x = go (load ls m x global s.links) refl
     where
       go : (o : Option Loaded) → load ls m x global s.links ≡ o → C (opt o (sets s r (num 0)) (λ l. calls_all (loaded s l) l.calls (gives r (num (length s.links.groups)) (behind s.core.here))))
-      go none e = sets_it r (num 0)
-      go (some l) e = opens_group _ x global l r _ _ e refl
+      go None e = sets_it r (num 0)
+      go (Some l) e = opens_group _ x global l r _ _ e refl
 
   stores_it : (p v : Value) (k : ℕ) → C (opt (write_at s p k v) (wrong s) (λ t. goes (next t)))
   stores_it (num n) v k = no_meaning
   stores_it (place i c) v k = go (held_at s i (c + k)) refl
     where
-      go : (o : Option Held) → held_at s i (c + k) ≡ o → C (opt (on_some (on_some o is_val) (λ old. some (with_links s s.links (put_cell s.cells i (c + k) (val v))))) (wrong s) (λ t. goes (next t)))
-      go none e = no_meaning
-      go (some (val old)) e = writes _ i (c + k) old v e refl
-      go (some (link y o)) e = no_meaning
-      go (some (label x)) e = no_meaning
-      go (some (code o)) e = no_meaning
+      go : (o : Option Held) → held_at s i (c + k) ≡ o → C (opt (on_some (on_some o is_val) (λ old. Some (with_links s s.links (put_cell s.cells i (c + k) (val v))))) (wrong s) (λ t. goes (next t)))
+      go None e = no_meaning
+      go (Some (val old)) e = writes _ i (c + k) old v e refl
+      go (Some (link y o)) e = no_meaning
+      go (Some (label x)) e = no_meaning
+      go (Some (code o)) e = no_meaning
 
   pops_it : (r : ℕ) (vs : List Value) → C (pops s r vs)
   pops_it r [] = no_meaning
@@ -149,11 +149,11 @@ module _ (ls : List Library) (m : Room) (s : State) where
   does_change (End r) = with_num (reg s r) _ (λ n. runs _ (cleared _ n refl))
 
   runs_code : (o : Option Held) → C (here_code o (does ls m s) (wrong s))
-  runs_code none = no_meaning
-  runs_code (some (val v)) = no_meaning
-  runs_code (some (link y o)) = no_meaning
-  runs_code (some (label x)) = no_meaning
-  runs_code (some (code o)) = does_change o
+  runs_code None = no_meaning
+  runs_code (Some (val v)) = no_meaning
+  runs_code (Some (link y o)) = no_meaning
+  runs_code (Some (label x)) = no_meaning
+  runs_code (Some (code o)) = does_change o
 
   pub step_change : C (step ls m s)
   step_change = picks (eqb s.core.here.cell 8589934592) _ _ (λ e. returns_it s.core.frames refl) (runs_code (own s s.core.here.cell))

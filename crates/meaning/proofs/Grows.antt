@@ -1,6 +1,6 @@
 -- What was shown stays shown, what was taken stays taken.
+use Rattle.std.specs.Prelude.{Some}
 use Rattle.std.proofs.Common.{◌≡◌, ℕ, ◌≤◌, true, List, [], ◌∷◌, ◌++◌, sym, refl, ap, ◌∙◌, subst, append_assoc, append-nil, arith}
-use mathlib.Core.Option.{some}
 use Rattle.base.proofs.Choices.{some_is, none_not_some, on_some_inv, opt_none}
 use Rattle.library.specs.Library.{Library, any_version, main_name}
 use Rattle.links.specs.Links.{place_at, Room}
@@ -65,7 +65,7 @@ module _ (ls : List Library) (m : Room) where
   after_takes s n k h = let t = after_by ls m (λ a b. a.links.used ≤ b.links.used) (λ a. omega arith) (λ a b c p q. omega (arith, p, q)) (λ a x d. (change_takes a x d).0) s n k h in omega (arith, t, used_is (after ls m s n), used_is (after ls m s k))
 
 -- how a program begins, taken apart
-pub begins_inv : (l : Library) (ls : List Library) (m : Room) (ins : List ℕ) (s : State) → begins (l ∷ ls) m ins ≡ some s → (c : ℕ) × (x : Loaded) × (find_def true l.defs (record { name = main_name; version = any_version }) ≡ some c) × (load (l ∷ ls) m l.name true (blank ins).links ≡ some x) × (s ≡ started (loaded (blank ins) x) (x.calls ++ (place_at 0 c ∷ [])))
+pub begins_inv : (l : Library) (ls : List Library) (m : Room) (ins : List ℕ) (s : State) → begins (l ∷ ls) m ins ≡ Some s → (c : ℕ) × (x : Loaded) × (find_def true l.defs (record { name = main_name; version = any_version }) ≡ Some c) × (load (l ∷ ls) m l.name true (blank ins).links ≡ Some x) × (s ≡ started (loaded (blank ins) x) (x.calls ++ (place_at 0 c ∷ [])))
 begins_inv l ls m ins s e =
     let p = on_some_inv (find_def true l.defs (record { name = main_name; version = any_version })) _ s e in
     let q = on_some_inv (load (l ∷ ls) m l.name true (blank ins).links) _ s p.2 in

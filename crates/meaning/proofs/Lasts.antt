@@ -1,9 +1,9 @@
 -- What no program changes, and what doesn't come back.
+use Rattle.std.specs.Prelude.{None, Some, filter, slice_get, slice_set}
 use Rattle.std.proofs.Common.{◌≡◌, ℕ, ◌+◌, ◌<◌, ◌≤◌, Bool, true, false, List, ◌++◌, length, sym, refl, ap, ◌∙◌, ⊎_elim, arith}
-use mathlib.Core.Option.{some, none}
 use Rattle.base.specs.Choices.{on_some}
 use Rattle.base.specs.Names.{Name}
-use Rattle.base.specs.Lists.{nth, put, has, keep}
+use Rattle.base.specs.Lists.{has}
 use Rattle.base.proofs.Choices.{some_is, on_some_inv}
 use Rattle.base.proofs.Lists.{nth_left}
 use Rattle.library.specs.Library.{Library}
@@ -25,16 +25,16 @@ use Rattle.meaning.proofs.Always.{unload_length, slot_length}
 use Rattle.std.proofs.lemmas.List.{length-append}
 
 -- a cell is put where something stood that doesn't last
-put_lasts : (css : List (List Held)) (a b : ℕ) (old v : Held) (i c : ℕ) (h : Held) → part_at helds css a b ≡ some old → lasts old ≡ false → lasts h ≡ true → part_at helds css i c ≡ some h → part_at helds (put_cell css a b v) i c ≡ some h
-put_lasts css a b old v i c h o f l e = part_other helds (λ hs. put hs b v) b v (λ hs. refl) css a i c apart ∙ e
+put_lasts : (css : List (List Held)) (a b : ℕ) (old v : Held) (i c : ℕ) (h : Held) → part_at helds css a b ≡ Some old → lasts old ≡ false → lasts h ≡ true → part_at helds css i c ≡ Some h → part_at helds (put_cell css a b v) i c ≡ Some h
+put_lasts css a b old v i c h o f l e = part_other helds (λ hs. slice_set hs b v) b v (λ hs. refl) css a i c apart ∙ e
   where
     apart : i ≡ a → c ≡ b → ⊥
     apart p q = let s : old ≡ h = some_is (sym o ∙ (λ t. part_at helds css (sym p t) (sym q t)) ∙ e) in let t : lasts old ≡ true = ap lasts s ∙ l in let z : ◌≡◌ {A = ℕ} 0 1 = cc in omega arith
 
-append_lasts : (css ns : List (List Held)) (i c : ℕ) (h : Held) → part_at helds css i c ≡ some h → part_at helds (css ++ ns) i c ≡ some h
-append_lasts css ns i c h e = let t = on_some_inv (nth css i) (λ hs. nth hs c) h e in ap (λ o. on_some o (λ hs. nth hs c)) (nth_left css ns i t.0 t.1) ∙ t.2
+append_lasts : (css ns : List (List Held)) (i c : ℕ) (h : Held) → part_at helds css i c ≡ Some h → part_at helds (css ++ ns) i c ≡ Some h
+append_lasts css ns i c h e = let t = on_some_inv (slice_get css i) (λ hs. slice_get hs c) h e in ap (λ o. on_some o (λ hs. slice_get hs c)) (nth_left css ns i t.0 t.1) ∙ t.2
 
-change_lasts : (ls : List Library) (m : Room) (s : State) (n : Next) → Change ls m s n → (i c : ℕ) (h : Held) → lasts h ≡ true → cell_of s i c ≡ some h → cell_of (state_of n) i c ≡ some h
+change_lasts : (ls : List Library) (m : Room) (s : State) (n : Next) → Change ls m s n → (i c : ℕ) (h : Held) → lasts h ≡ true → cell_of s i c ≡ Some h → cell_of (state_of n) i c ≡ Some h
 change_lasts ls m s n no_meaning i c h l e = e
 change_lasts ls m s n is_lost i c h l e = e
 change_lasts ls m s n (has_ended v) i c h l e = e
@@ -42,12 +42,12 @@ change_lasts ls m s n (runs d f) i c h l e = e
 change_lasts ls m s n (writes d a b old v q f) i c h l e = put_lasts s.cells a b (val old) (val v) i c h (held_part s a b (val old) q) refl l e
 change_lasts ls m s n (shows d is o f) i c h l e = e
 change_lasts ls m s n (opens_group d x g y r v p q f) i c h l e = append_lasts s.cells (new_cells y.links y.new) i c h e
-change_lasts ls m s n (binds_slot d b y p q o f g) i c h l e = put_lasts s.cells s.core.here.host b (link y none) (link y (some (place p.host p.cell))) i c h (held_part s s.core.here.host b (link y none) o) refl l e
+change_lasts ls m s n (binds_slot d b y p q o f g) i c h l e = put_lasts s.cells s.core.here.host b (link y None) (link y (Some (place p.host p.cell))) i c h (held_part s s.core.here.host b (link y None) o) refl l e
 change_lasts ls m s n (begins_close d a r p q f) i c h l e = e
 change_lasts ls m s n (does_close d js r p fs f g) i c h l e = e
 
 pub cells_last : CellsLast
-cells_last ls m s n k i c h q l e = after_by ls m (λ a b. (i c : ℕ) (h : Held) → lasts h ≡ true → cell_of a i c ≡ some h → cell_of b i c ≡ some h) (λ a i c h l e. e) (λ a b d p r i c h l e. r i c h l (p i c h l e)) (change_lasts ls m) s n k q i c h l e
+cells_last ls m s n k i c h q l e = after_by ls m (λ a b. (i c : ℕ) (h : Held) → lasts h ≡ true → cell_of a i c ≡ Some h → cell_of b i c ≡ Some h) (λ a i c h l e. e) (λ a b d p r i c h l e. r i c h l (p i c h l e)) (change_lasts ls m) s n k q i c h l e
 
 -- modules become no fewer, and none of those that were there comes back
 abbrev Older : Links → Links → Type 0
@@ -59,14 +59,14 @@ older_self k = (omega arith, λ i h l. l)
 older_on : (a b c : Links) → Older a b → Older b c → Older a c
 older_on a b c p q = (omega (arith, p.0, q.0), λ i h l. p.1 i h (q.1 i (omega (arith, p.0)) l))
 
-load_older : (ls : List Library) (m : Room) (x : Name) (global : Bool) (k : Links) (l : Loaded) → load ls m x global k ≡ some l → Older k l.links
+load_older : (ls : List Library) (m : Room) (x : Name) (global : Bool) (k : Links) (l : Loaded) → load ls m x global k ≡ Some l → Older k l.links
 load_older ls m x global k l e = (omega (arith, ap length a.modules, length-append k.modules a.fresh), old)
   where
     a : Loads ls m k l
     a = load_appends ls m x global k l e
 
     old : (i : ℕ) → i < length k.modules → Live l.links.modules i → Live k.modules i
-    old i h v = let t = live_is l.links.modules i v in let s = live_inv l.links.modules i t.0 t.1 in ⊎_elim (λ n. is_live k.modules i t.0 (live_from k.modules i t.0 n s.1)) (λ n. absurd (past n.0 n.1)) (nth_split k.modules a.fresh i t.0 (ap (λ ms. nth ms i) (sym a.modules) ∙ s.0))
+    old i h v = let t = live_is l.links.modules i v in let s = live_inv l.links.modules i t.0 t.1 in ⊎_elim (λ n. is_live k.modules i t.0 (live_from k.modules i t.0 n s.1)) (λ n. absurd (past n.0 n.1)) (nth_split k.modules a.fresh i t.0 (ap (λ ms. slice_get ms i) (sym a.modules) ∙ s.0))
       where
         past : (d : ℕ) → i ≡ length k.modules + d → ⊥
         past d p = omega arith
@@ -75,7 +75,7 @@ unload_older : (k : Links) (js : List ℕ) → Older k (unload js k)
 unload_older k js = (omega (arith, unload_length ds k.modules), λ i h v. let t = live_is (unload_all ds k.modules) i v in is_live k.modules i t.0 (unload_inv ds k.modules i t.0 t.1).0)
   where
     ds : List ℕ
-    ds = keep (λ j. has j (leaving k)) js
+    ds = filter (λ j. has j (leaving k)) js
 
 slot_older : (k : Links) (me j : ℕ) (p : Place) → Older k (slot_bound k me j p)
 slot_older k me j p = (omega (arith, slot_length k me j p), λ i h v. LiveKeys (slot_bound k me j p).modules k.modules (slot_keys k me j p) i v)

@@ -1,7 +1,7 @@
 -- A state but for the words taken: no step but open's looks at that.
+use Rattle.std.specs.Prelude.{None, Option, Some, cond}
 use Rattle.std.proofs.Common.{◌≡◌, ℕ, ◌+◌, Bool, true, false, eqb, ◌⊎◌, List, [], ◌∷◌, refl, inl, inr}
-use mathlib.Core.Option.{Option, some, none}
-use Rattle.base.specs.Choices.{pick, opt, on_some}
+use Rattle.base.specs.Choices.{opt, on_some}
 use Rattle.base.specs.Names.{Name}
 use Rattle.library.specs.Library.{Instruction, Set, Get, Sto, Own, Add, Sub, Mul, Less, Same, Move, Jump, If0, Call, Callr, Ret, Push, Pop, Out, In, Open, Find, Close, End, Library}
 use Rattle.links.specs.Links.{Links, Room}
@@ -39,26 +39,26 @@ fate_retag u (wrong s) = refl
 
 module _ (s : State) (u : ℕ) where
   on_val_tag : (o : Option Value) (f g : Value → Next) → ((v : Value) → g v ≡ retag u (f v)) → on_val (with_used s u) o g ≡ retag u (on_val s o f)
-  on_val_tag none f g h = refl
-  on_val_tag (some v) f g h = h v
+  on_val_tag None f g h = refl
+  on_val_tag (Some v) f g h = h v
 
   on_num_tag : (o : Option Value) (f g : ℕ → Next) → ((n : ℕ) → g n ≡ retag u (f n)) → on_num (with_used s u) o g ≡ retag u (on_num s o f)
-  on_num_tag none f g h = refl
-  on_num_tag (some (num n)) f g h = h n
-  on_num_tag (some (place i j)) f g h = refl
+  on_num_tag None f g h = refl
+  on_num_tag (Some (num n)) f g h = h n
+  on_num_tag (Some (place i j)) f g h = refl
 
   pub on_label_tag : (o : Option Held) (f g : Name → Next) → ((x : Name) → g x ≡ retag u (f x)) → on_label (with_used s u) o g ≡ retag u (on_label s o f)
-  on_label_tag none f g h = refl
-  on_label_tag (some (val v)) f g h = refl
-  on_label_tag (some (link y o)) f g h = refl
-  on_label_tag (some (label x)) f g h = h x
-  on_label_tag (some (code o)) f g h = refl
+  on_label_tag None f g h = refl
+  on_label_tag (Some (val v)) f g h = refl
+  on_label_tag (Some (link y o)) f g h = refl
+  on_label_tag (Some (label x)) f g h = h x
+  on_label_tag (Some (code o)) f g h = refl
 
   pub opt_tag : {A : Type 0} (o : Option A) (c d : Next) (f g : A → Next) → d ≡ retag u c → ((x : A) → g x ≡ retag u (f x)) → opt o d g ≡ retag u (opt o c f)
-  opt_tag none c d f g e h = e
-  opt_tag (some x) c d f g e h = h x
+  opt_tag None c d f g e h = e
+  opt_tag (Some x) c d f g e h = h x
 
-  pick_tag : (b : Bool) (c d e f : Next) → d ≡ retag u c → f ≡ retag u e → pick b d f ≡ retag u (pick b c e)
+  pick_tag : (b : Bool) (c d e f : Next) → d ≡ retag u c → f ≡ retag u e → cond b d f ≡ retag u (cond b c e)
   pick_tag true c d e f p q = p
   pick_tag false c d e f p q = q
 
@@ -82,12 +82,12 @@ module _ (s : State) (u : ℕ) where
   calls_place_tag (place i k) = refl
 
   calls_tag : (j : ℕ) (o : Option Held) → calls_through (with_used s u) j o ≡ retag u (calls_through s j o)
-  calls_tag j none = refl
-  calls_tag j (some (val v)) = refl
-  calls_tag j (some (link y none)) = opt_tag (resolve s.links s.core.here.host y) _ _ _ _ refl (λ p. refl)
-  calls_tag j (some (link y (some v))) = calls_place_tag v
-  calls_tag j (some (label x)) = refl
-  calls_tag j (some (code o)) = refl
+  calls_tag j None = refl
+  calls_tag j (Some (val v)) = refl
+  calls_tag j (Some (link y None)) = opt_tag (resolve s.links s.core.here.host y) _ _ _ _ refl (λ p. refl)
+  calls_tag j (Some (link y (Some v))) = calls_place_tag v
+  calls_tag j (Some (label x)) = refl
+  calls_tag j (Some (code o)) = refl
 
   pops_tag : (r : ℕ) (vs : List Value) → pops (with_used s u) r vs ≡ retag u (pops s r vs)
   pops_tag r [] = refl
@@ -97,9 +97,9 @@ module _ (s : State) (u : ℕ) where
   sto_tag (num a) v n = refl
   sto_tag (place i j) v n = go (value_at s (place i j) n)
     where
-      go : (o : Option Value) → opt (on_some o (λ old. some (with_links (with_used s u) (used_links s.links u) (put_cell s.cells i (j + n) (val v))))) (wrong (with_used s u)) (λ t. goes (next t)) ≡ retag u (opt (on_some o (λ old. some (with_links s s.links (put_cell s.cells i (j + n) (val v))))) (wrong s) (λ t. goes (next t)))
-      go none = refl
-      go (some x) = refl
+      go : (o : Option Value) → opt (on_some o (λ old. Some (with_links (with_used s u) (used_links s.links u) (put_cell s.cells i (j + n) (val v))))) (wrong (with_used s u)) (λ t. goes (next t)) ≡ retag u (opt (on_some o (λ old. Some (with_links s s.links (put_cell s.cells i (j + n) (val v))))) (wrong s) (λ t. goes (next t)))
+      go None = refl
+      go (Some x) = refl
 
   -- all but open
   pub does_tag : (ls : List Library) (m k : Room) (o : Instruction) → (does ls k (with_used s u) o ≡ retag u (does ls m s o)) ⊎ ((r : ℕ) × (j : ℕ) × (b : Bool) × (o ≡ Open r j b))

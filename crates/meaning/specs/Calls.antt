@@ -1,13 +1,12 @@
 -- Pending calls, and what follows them.
-use Rattle.std.specs.Prelude.{ℕ, List, [], ◌∷◌}
-use Rattle.base.specs.Lists.{put}
+use Rattle.std.specs.Prelude.{ℕ, List, [], ◌∷◌, slice_set}
 use Rattle.links.specs.Links.{Place, place_at}
 use Rattle.links.specs.Close.{unload, fini_calls}
 use Rattle.meaning.specs.State.{Value, num, Sequel, gives, drops, ends, stops, Frame, back, pending, State, Next, goes, ended, wrong, with_links, moved}
 
 -- v in the register r
 abbrev pub set_reg : State → ℕ → Value → State
-set_reg s r v = moved s (put s.core.regs r v) s.core.here s.core.frames
+set_reg s r v = moved s (slice_set s.core.regs r v) s.core.here s.core.frames
 
 -- going on at p
 abbrev pub at_pc : State → Place → State
@@ -23,8 +22,8 @@ ending s n = moved s s.core.regs nowhere (pending (fini_calls s.links s.links.or
 
 -- what is done when pending calls are through
 abbrev pub follows : State → Sequel → List Frame → Next
-follows s (gives r v p) fs = goes (moved s (put s.core.regs r v) p fs)
-follows s (drops js r p) fs = goes (moved (with_links s (unload js s.links) s.cells) (put s.core.regs r (num 1)) p fs)
+follows s (gives r v p) fs = goes (moved s (slice_set s.core.regs r v) p fs)
+follows s (drops js r p) fs = goes (moved (with_links s (unload js s.links) s.cells) (slice_set s.core.regs r (num 1)) p fs)
 follows s (ends n) fs = goes (ending s n)
 follows s (stops n) fs = ended n s
 

@@ -1,6 +1,5 @@
 -- A program as it begins, and its steps.
-use Rattle.std.specs.Prelude.{ℕ, zero, suc, true, List, [], ◌∷◌, ◌++◌, replicate}
-use Rattle.std.proofs.Math.Option.{Option, some, none}
+use Rattle.std.specs.Prelude.{ℕ, zero, suc, true, List, [], ◌∷◌, ◌++◌, replicate, None, Option, Some}
 use Rattle.base.specs.Choices.{on_some}
 use Rattle.library.specs.Library.{Library, any_version, main_name}
 use Rattle.links.specs.Links.{Place, place_at, Room}
@@ -20,8 +19,8 @@ started s ps = moved s s.core.regs nowhere (pending ps (ends 0) ∷ [])
 
 -- the program as it begins: group 0 is loaded, its inits and main are pending
 abbrev pub begins : List Library → Room → List ℕ → Option State
-begins [] m ins = none
-begins (l ∷ ls) m ins = on_some (find_def true l.defs (record { name = main_name; version = any_version })) (λ k. on_some (load (l ∷ ls) m l.name true (blank ins).links) (λ x. some (started (loaded (blank ins) x) (x.calls ++ (place_at 0 k ∷ [])))))
+begins [] m ins = None
+begins (l ∷ ls) m ins = on_some (find_def true l.defs (record { name = main_name; version = any_version })) (λ k. on_some (load (l ∷ ls) m l.name true (blank ins).links) (λ x. Some (started (loaded (blank ins) x) (x.calls ++ (place_at 0 k ∷ [])))))
 
 -- n steps on
 abbrev pub after : List Library → Room → State → ℕ → Next

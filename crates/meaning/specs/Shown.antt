@@ -1,6 +1,5 @@
 -- Where room is never short it doesn't matter.
-use Rattle.std.specs.Prelude.{◌≡◌, ℕ, ◌+◌, ◌*◌, ◌≤◌, List, [], ◌∷◌, length}
-use Rattle.std.proofs.Math.Option.{some}
+use Rattle.std.specs.Prelude.{◌≡◌, ℕ, ◌+◌, ◌*◌, ◌≤◌, List, [], ◌∷◌, length, Some}
 use Rattle.library.specs.Library.{Library}
 use Rattle.links.specs.Links.{Room}
 use Rattle.meaning.specs.State.{State, Next, goes, ended, lost, wrong}
@@ -45,8 +44,8 @@ fate (wrong s) = no_meaning
 
 -- where room is never short, a program shows the same in any two, step by step
 abbrev pub SameShown : Type 0
-SameShown = (ls : List Library) (m k : Room) (ins : List ℕ) (s t : State) (n : ℕ) → begins ls m ins ≡ some s → begins ls k ins ≡ some t → Plenty ls m s n → Plenty ls k t n → shown (after ls m s n) ≡ shown (after ls k t n)
+SameShown = (ls : List Library) (m k : Room) (ins : List ℕ) (s t : State) (n : ℕ) → begins ls m ins ≡ Some s → begins ls k ins ≡ Some t → Plenty ls m s n → Plenty ls k t n → shown (after ls m s n) ≡ shown (after ls k t n)
 
 -- and comes to the same end
 abbrev pub SameEnd : Type 0
-SameEnd = (ls : List Library) (m k : Room) (ins : List ℕ) (s t : State) (n : ℕ) → begins ls m ins ≡ some s → begins ls k ins ≡ some t → Plenty ls m s n → Plenty ls k t n → fate (after ls m s n) ≡ fate (after ls k t n)
+SameEnd = (ls : List Library) (m k : Room) (ins : List ℕ) (s t : State) (n : ℕ) → begins ls m ins ≡ Some s → begins ls k ins ≡ Some t → Plenty ls m s n → Plenty ls k t n → fate (after ls m s n) ≡ fate (after ls k t n)

@@ -1,8 +1,6 @@
 -- The state of a program: what is loaded, what cells hold, what runs.
-use Rattle.std.specs.Prelude.{ℕ, ◌+◌, List, [], ◌∷◌, ◌++◌}
-use Rattle.std.proofs.Math.Option.{Option, some, none}
+use Rattle.std.specs.Prelude.{ℕ, ◌+◌, List, [], ◌∷◌, ◌++◌, None, Option, Some, slice_get}
 use Rattle.base.specs.Choices.{opt, on_some}
-use Rattle.base.specs.Lists.{nth}
 use Rattle.base.specs.Names.{Name}
 use Rattle.library.specs.Library.{Symbol, Instruction, Cell, number, ref, at, slot, named, instruction}
 use Rattle.links.specs.Links.{Place, Links}
@@ -74,19 +72,19 @@ moved s rs p fs = with_core s (record { regs = rs; here = p; frames = fs; pushed
 
 -- what the cell k of the module i holds, while the module is live
 abbrev pub held_at : State → ℕ → ℕ → Option Held
-held_at s i k = on_some (live_at s.links.modules i) (λ x. on_some (nth s.cells i) (λ hs. nth hs k))
+held_at s i k = on_some (live_at s.links.modules i) (λ x. on_some (slice_get s.cells i) (λ hs. slice_get hs k))
 
 -- the place k cells behind a definition; 0 where there is none
 abbrev pub place_of : Option Place → ℕ → Value
-place_of none k = num 0
-place_of (some p) k = place p.host (p.cell + k)
+place_of None k = num 0
+place_of (Some p) k = place p.host (p.cell + k)
 
 -- a cell of the module me as it begins: refs are settled, slots aren't
 abbrev pub first_held : Links → ℕ → Cell → Held
 first_held k me (number n) = val (num n)
 first_held k me (ref s n must) = val (place_of (resolve k me s) n)
 first_held k me (at n) = val (place me n)
-first_held k me (slot s) = link s none
+first_held k me (slot s) = link s None
 first_held k me (named x) = label x
 first_held k me (instruction o) = code o
 
@@ -98,7 +96,7 @@ first_helds k me (c ∷ cs) = first_held k me c ∷ first_helds k me cs
 -- the cells of these modules as they begin
 abbrev pub new_cells : Links → List ℕ → List (List Held)
 new_cells k [] = []
-new_cells k (i ∷ is) = opt (nth k.modules i) [] (λ x. first_helds k i x.lib.cells) ∷ new_cells k is
+new_cells k (i ∷ is) = opt (slice_get k.modules i) [] (λ x. first_helds k i x.lib.cells) ∷ new_cells k is
 
 -- the state with what a load has brought in
 abbrev pub loaded : State → Loaded → State

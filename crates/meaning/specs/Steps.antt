@@ -1,8 +1,7 @@
 -- What each instruction does, and a step.
-use Rattle.std.specs.Prelude.{ℕ, ◌+◌, ◌%◌, Bool, true, false, not, ◌&&◌, List, [], ◌∷◌, ◌++◌, length, drop, ◌==◌}
-use Rattle.std.proofs.Math.Option.{Option, some, none}
-use Rattle.base.specs.Choices.{pick, opt, on_some}
-use Rattle.base.specs.Lists.{nth, put, any_of}
+use Rattle.std.specs.List.{list_any}
+use Rattle.std.specs.Prelude.{ℕ, ◌+◌, ◌%◌, Bool, true, false, not, ◌&&◌, List, [], ◌∷◌, ◌++◌, length, drop, ◌==◌, None, Option, Some, cond, slice_get, slice_set}
+use Rattle.base.specs.Choices.{opt, on_some}
 use Rattle.base.specs.Names.{Name}
 use Rattle.library.specs.Library.{Symbol, Instruction, Set, Get, Sto, Own, Add, Sub, Mul, Less, Same, Move, Jump, If0, Call, Callr, Ret, Push, Pop, Out, In, Open, Find, Close, End, Library}
 use Rattle.links.specs.Links.{Place, place_at, Links, Room}
@@ -19,24 +18,24 @@ two s r a b f = on_val s (reg s a) (λ x. on_val s (reg s b) (λ y. on_val s (f 
 
 -- the value of a cell that holds one
 abbrev pub is_val : Held → Option Value
-is_val (val v) = some v
-is_val (link y o) = none
-is_val (label x) = none
-is_val (code o) = none
+is_val (val v) = Some v
+is_val (link y o) = None
+is_val (label x) = None
+is_val (code o) = None
 
 -- the value k cells behind a place
 abbrev pub value_at : State → Value → ℕ → Option Value
-value_at s (num n) k = none
+value_at s (num n) k = None
 value_at s (place i c) k = on_some (held_at s i (c + k)) is_val
 
 -- h in the cell k of the module i
 abbrev pub put_cell : List (List Held) → ℕ → ℕ → Held → List (List Held)
-put_cell css i k h = opt (nth css i) css (λ hs. put css i (put hs k h))
+put_cell css i k h = opt (slice_get css i) css (λ hs. slice_set css i (slice_set hs k h))
 
 -- v into the cell k behind a place, if that holds a value
 abbrev pub write_at : State → Value → ℕ → Value → Option State
-write_at s (num n) k v = none
-write_at s (place i c) k v = on_some (value_at s (place i c) k) (λ old. some (with_links s s.links (put_cell s.cells i (c + k) (val v))))
+write_at s (num n) k v = None
+write_at s (place i c) k v = on_some (value_at s (place i c) k) (λ old. Some (with_links s s.links (put_cell s.cells i (c + k) (val v))))
 
 -- going on at an own cell
 abbrev pub to_cell : State → ℕ → Next
@@ -53,24 +52,24 @@ calls_place s (place i k) = pushes s (place_at i k)
 
 -- the slot k is settled to p, and p is called
 abbrev pub binds_to : State → ℕ → Symbol → Place → Next
-binds_to s k y p = pushes (with_links s (slot_bound s.links s.core.here.host k p) (put_cell s.cells s.core.here.host k (link y (some (place p.host p.cell))))) p
+binds_to s k y p = pushes (with_links s (slot_bound s.links s.core.here.host k p) (put_cell s.cells s.core.here.host k (link y (Some (place p.host p.cell))))) p
 
 -- a call through the slot k; one not settled yet is settled now, and where its symbol means nothing the program is lost
 abbrev pub calls_through : State → ℕ → Option Held → Next
-calls_through s k none = wrong s
-calls_through s k (some (val v)) = wrong s
-calls_through s k (some (link y (some v))) = calls_place s v
-calls_through s k (some (link y none)) = opt (resolve s.links s.core.here.host y) (lost s) (binds_to s k y)
-calls_through s k (some (label x)) = wrong s
-calls_through s k (some (code o)) = wrong s
+calls_through s k None = wrong s
+calls_through s k (Some (val v)) = wrong s
+calls_through s k (Some (link y (Some v))) = calls_place s v
+calls_through s k (Some (link y None)) = opt (resolve s.links s.core.here.host y) (lost s) (binds_to s k y)
+calls_through s k (Some (label x)) = wrong s
+calls_through s k (Some (code o)) = wrong s
 
 -- the name that a cell holds; what holds none has no meaning
 abbrev pub on_label : State → Option Held → (Name → Next) → Next
-on_label s none f = wrong s
-on_label s (some (val v)) f = wrong s
-on_label s (some (link y o)) f = wrong s
-on_label s (some (label x)) f = f x
-on_label s (some (code o)) f = wrong s
+on_label s None f = wrong s
+on_label s (Some (val v)) f = wrong s
+on_label s (Some (link y o)) f = wrong s
+on_label s (Some (label x)) f = f x
+on_label s (Some (code o)) f = wrong s
 
 -- r gets the number of the new group, once its inits are through; 0 if it cannot be loaded, and then nothing is changed
 abbrev pub opens : List Library → Room → State → ℕ → Bool → Name → Next
@@ -90,7 +89,7 @@ is_drops (pending ps (stops n)) = false
 
 -- finis of a close are being called
 abbrev pub closing : List Frame → Bool
-closing fs = any_of is_drops fs
+closing fs = list_any is_drops fs
 
 -- a group that isn't closed, and not 0, while no finis of a close are called
 abbrev pub may_close : State → ℕ → Bool
@@ -102,7 +101,7 @@ closes_it s r k = calls_all (with_links s k s.cells) (fini_calls k (leaving k)) 
 
 -- a close of the group h; 0 in r where it may not be closed
 abbrev pub closes : State → ℕ → ℕ → Next
-closes s r h = pick (may_close s h) (closes_it s r (close_group s.links h)) (sets s r (num 0))
+closes s r h = cond (may_close s h) (closes_it s r (close_group s.links h)) (sets s r (num 0))
 
 -- what an own cell holds
 abbrev pub own : State → ℕ → Option Held
@@ -144,7 +143,7 @@ does ls m s (Less r a b) = two s r a b below
 does ls m s (Same r a b) = two s r a b equal
 does ls m s (Move r a) = on_val s (reg s a) (sets s r)
 does ls m s (Jump k) = to_cell s k
-does ls m s (If0 r k) = on_val s (reg s r) (λ v. pick (zero_is v) (to_cell s k) (goes (next s)))
+does ls m s (If0 r k) = on_val s (reg s r) (λ v. cond (zero_is v) (to_cell s k) (goes (next s)))
 does ls m s (Call k) = calls_through s k (own s k)
 does ls m s (Callr r) = on_val s (reg s r) (calls_place s)
 does ls m s Ret = returns s s.core.frames
@@ -159,15 +158,15 @@ does ls m s (End r) = on_num s (reg s r) (λ n. goes (ending s n))
 
 -- the instruction that a cell holds; what holds none has no meaning
 abbrev pub here_code : Option Held → (Instruction → Next) → Next → Next
-here_code none f e = e
-here_code (some (val v)) f e = e
-here_code (some (link y o)) f e = e
-here_code (some (label x)) f e = e
-here_code (some (code o)) f e = f o
+here_code None f e = e
+here_code (Some (val v)) f e = e
+here_code (Some (link y o)) f e = e
+here_code (Some (label x)) f e = e
+here_code (Some (code o)) f e = f o
 
 -- one step: between pending calls to the next of them, else the instruction here
 abbrev pub step : List Library → Room → State → Next
-step ls m s = pick (s.core.here.cell == 8589934592) (returns s s.core.frames) (here_code (own s s.core.here.cell) (does ls m s) (wrong s))
+step ls m s = cond (s.core.here.cell == 8589934592) (returns s s.core.frames) (here_code (own s s.core.here.cell) (does ls m s) (wrong s))
 
 -- the next step, if the program goes on
 abbrev pub then : Next → (State → Next) → Next

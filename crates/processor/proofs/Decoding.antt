@@ -1,8 +1,7 @@
 -- A word does what the instruction does that it is decoded to.
+use Rattle.std.specs.Prelude.{cond, slice_get}
 use Rattle.std.proofs.Common.{◌≡◌, ℕ, Bool, true, false, eqb, Some, Option, sym, refl, ap, ◌∙◌, ne_eqb}
-use mathlib.Core.Option.{some}
-use Rattle.base.specs.Choices.{pick, opt}
-use Rattle.base.specs.Lists.{nth}
+use Rattle.base.specs.Choices.{opt}
 use Rattle.processor.specs.Cpu.{Processor, Did, Parts, Home, Stuck, did, does, parts, step}
 use Rattle.processor.specs.Operations.{kind, act, decoded}
 use Rattle.processor.specs.Laws.{Decodes}
@@ -10,7 +9,7 @@ use Rattle.processor.specs.declared.words.Operation.{Operation}
 use Rattle.processor.specs.declared.words.Operation.TheVariants.{Set, Load, Store, Own, Add, Sub, Mul, Less, Same, Move, Jump, JumpIfZero, Call, CallRegister, Return, Push, Pop, Out, In, Open, Find, Close, End}
 
 -- past one number of the table
-past : (c : Processor) (b : Bool) (x y : Option Operation) {u v : Did} → act c x ≡ u → act c y ≡ v → act c (pick b x y) ≡ pick b u v
+past : (c : Processor) (b : Bool) (x y : Option Operation) {u v : Did} → act c x ≡ u → act c y ≡ v → act c (cond b x y) ≡ cond b u v
 past c true x y p q = p
 past c false x y p q = q
 
@@ -44,7 +43,7 @@ pub decodes : Decodes
 decodes c w = sym (act_kind c (parts w))
 
 -- a step, once the word is known at which the processor is
-pub steps_to : (c : Processor) (p w : ℕ) → p ≡ c.pc → (p ≡ 0 → ⊥) → nth c.words p ≡ some w → step c ≡ act c (decoded w)
+pub steps_to : (c : Processor) (p w : ℕ) → p ≡ c.pc → (p ≡ 0 → ⊥) → slice_get c.words p ≡ Some w → step c ≡ act c (decoded w)
 steps_to c p w e h n =
-    ap (λ b. pick b (did c Home) (opt (nth c.words c.pc) (did c Stuck) (λ w. does c (parts w)))) (ne_eqb c.pc 0 (λ z. h (e ∙ z)))
-    ∙ (ap (λ o. opt o (did c Stuck) (λ w. does c (parts w))) (ap (nth c.words) (sym e) ∙ n) ∙ decodes c w)
+    ap (λ b. cond b (did c Home) (opt (slice_get c.words c.pc) (did c Stuck) (λ w. does c (parts w)))) (ne_eqb c.pc 0 (λ z. h (e ∙ z)))
+    ∙ (ap (λ o. opt o (did c Stuck) (λ w. does c (parts w))) (ap (slice_get c.words) (sym e) ∙ n) ∙ decodes c w)

@@ -1,8 +1,7 @@
 -- Each step, by the kind of its instruction: what was shown stays shown, and the memory keeps its size.
+use Rattle.std.specs.Prelude.{Option, cond, slice_get}
 use Rattle.std.proofs.Common.{◌≡◌, ℕ, Bool, true, false, eqb, List, [], ◌∷◌, length, Some, None, Option as OptionCode, sym, refl, subst}
-use mathlib.Core.Option.{Option, some, none}
-use Rattle.base.specs.Choices.{pick, opt}
-use Rattle.base.specs.Lists.{nth}
+use Rattle.base.specs.Choices.{opt}
 use Rattle.base.proofs.Lists.{length-put}
 use Rattle.processor.specs.Cpu
 use Rattle.processor.specs.Cpu.{Processor, Did, computes, did, step}
@@ -21,19 +20,19 @@ module _ (c : Processor) where
   abbrev same : {d : Did} → d.cpu.outs ≡ c.outs → d.cpu.words ≡ c.words → Keeps c d
   same {d = d} p q = record { shown = rw p (front_self c.outs); sized = rw q }
 
-  pick_keeps : (b : Bool) (d e : Did) → Keeps c d → Keeps c e → Keeps c (pick b d e)
+  pick_keeps : (b : Bool) (d e : Did) → Keeps c d → Keeps c e → Keeps c (cond b d e)
   pick_keeps true d e p q = p
   pick_keeps false d e p q = q
 
   opt_keeps : (o : Option ℕ) (f : ℕ → Did) → ((x : ℕ) → Keeps c (f x)) → Keeps c (opt o (did c Cpu.Stuck) f)
-  opt_keeps none f h = same refl refl
-  opt_keeps (some x) f h = h x
+  opt_keeps None f h = same refl refl
+  opt_keeps (Some x) f h = h x
 
   reg_keeps : (r : ℕ) (f : ℕ → Did) → ((x : ℕ) → Keeps c (f x)) → Keeps c (Cpu.reg c r f)
-  reg_keeps r f h = opt_keeps (nth c.regs r) f h
+  reg_keeps r f h = opt_keeps (slice_get c.regs r) f h
 
   word_keeps : (a : ℕ) (f : ℕ → Did) → ((x : ℕ) → Keeps c (f x)) → Keeps c (Cpu.word c a f)
-  word_keeps a f h = opt_keeps (nth c.words a) f h
+  word_keeps a f h = opt_keeps (slice_get c.words a) f h
 
   computes_keeps : (r a b : ℕ) (f : ℕ → ℕ → ℕ) → Keeps c (computes c r a b f)
   computes_keeps r a b f = reg_keeps a _ (λ x. reg_keeps b _ (λ y. same refl refl))

@@ -1,7 +1,6 @@
 -- A processor with one row of words, which knows nothing of libraries.
-use Rattle.std.specs.Prelude.{ℕ, suc, ◌+◌, ◌-◌, ◌*◌, ◌/◌, ◌%◌, Bool, List, [], ◌∷◌, ◌++◌, drop, replicate, ◌==◌, nat_lt}
-use Rattle.base.specs.Choices.{pick, opt}
-use Rattle.base.specs.Lists.{nth, put}
+use Rattle.std.specs.Prelude.{ℕ, suc, ◌+◌, ◌-◌, ◌*◌, ◌/◌, ◌%◌, Bool, List, [], ◌∷◌, ◌++◌, drop, replicate, ◌==◌, nat_lt, cond, slice_get, slice_set}
+use Rattle.base.specs.Choices.{opt}
 
 -- words at addresses from 0, eight registers, the address of the next instruction, addresses to return to and words pushed, newest first, what is left to read, and what was shown, oldest first
 pub record Processor : Type 0 where
@@ -47,15 +46,15 @@ with_regs c rs p = record { words = c.words; regs = rs; pc = p; backs = c.backs;
 
 -- x modulo 2^64 into register r, and on; a register that there isn't takes nothing
 abbrev pub sets : Processor → ℕ → ℕ → Did
-sets c r x = did (with_regs c (put c.regs r (x % all)) (suc c.pc)) Continue
+sets c r x = did (with_regs c (slice_set c.regs r (x % all)) (suc c.pc)) Continue
 
 -- f of what register r holds; stuck if there is no such register
 abbrev pub reg : Processor → ℕ → (ℕ → Did) → Did
-reg c r f = opt (nth c.regs r) (did c Stuck) f
+reg c r f = opt (slice_get c.regs r) (did c Stuck) f
 
 -- f of the word at address a; stuck if there is no such word
 abbrev pub word : Processor → ℕ → (ℕ → Did) → Did
-word c a f = opt (nth c.words a) (did c Stuck) f
+word c a f = opt (slice_get c.words a) (did c Stuck) f
 
 -- on, at address p
 abbrev pub goes : Processor → ℕ → Did
@@ -87,11 +86,11 @@ two c p f = computes c p.r p.a p.b f
 
 -- 1 for true, 0 for false
 abbrev pub bit : Bool → ℕ
-bit b = pick b 1 0
+bit b = cond b 1 0
 
 -- y into the word at address a, and on
 abbrev pub stores : Processor → ℕ → ℕ → Did
-stores c a y = did (record { words = put c.words a y; regs = c.regs; pc = suc c.pc; backs = c.backs; pushed = c.pushed; ins = c.ins; outs = c.outs }) Continue
+stores c a y = did (record { words = slice_set c.words a y; regs = c.regs; pc = suc c.pc; backs = c.backs; pushed = c.pushed; ins = c.ins; outs = c.outs }) Continue
 
 -- on at p, to return behind this instruction
 abbrev pub calls : Processor → ℕ → Did
@@ -99,7 +98,7 @@ calls c p = did (record { words = c.words; regs = c.regs; pc = p; backs = suc c.
 
 -- a call of what the slot at address a holds; where that is 0, it must be bound first
 abbrev pub through : Processor → ℕ → Did
-through c a = word c a (λ x. pick (x == 0) (did c (Bind a)) (calls c x))
+through c a = word c a (λ x. cond (x == 0) (did c (Bind a)) (calls c x))
 
 -- on at the newest address to return to; stuck if there is none
 abbrev pub returns : Processor → List ℕ → Did
@@ -135,41 +134,41 @@ asks c e = did (with_regs c c.regs (suc c.pc)) e
 -- what an instruction does, by its number; stuck for any other
 abbrev pub does : Processor → Parts → Did
 does c p =
-    pick (p.o == 1) (sets c p.r p.k)
-    (pick (p.o == 2) (reg c p.a (λ x. word c ((x + p.k) % all) (sets c p.r)))
-    (pick (p.o == 3) (reg c p.a (λ x. reg c p.r (λ y. word c ((x + p.k) % all) (λ old. stores c ((x + p.k) % all) y))))
-    (pick (p.o == 4) (sets c p.r (there c p.k))
-    (pick (p.o == 5) (two c p (λ x y. x + y))
-    (pick (p.o == 6) (two c p (λ x y. (x + all) - y))
-    (pick (p.o == 7) (two c p (λ x y. x * y))
-    (pick (p.o == 8) (two c p (λ x y. bit (nat_lt x y)))
-    (pick (p.o == 9) (two c p (λ x y. bit (x == y)))
-    (pick (p.o == 10) (reg c p.a (sets c p.r))
-    (pick (p.o == 11) (goes c (there c p.k))
-    (pick (p.o == 12) (reg c p.r (λ x. goes c (pick (x == 0) (there c p.k) (suc c.pc))))
-    (pick (p.o == 13) (through c (there c p.k))
-    (pick (p.o == 14) (reg c p.r (calls c))
-    (pick (p.o == 15) (returns c c.backs)
-    (pick (p.o == 16) (reg c p.r (pushes c))
-    (pick (p.o == 17) (pops c p.r c.pushed)
-    (pick (p.o == 18) (reg c p.r (shows c))
-    (pick (p.o == 19) (reads c p.r)
-    (pick (p.o == 20) (word c (there c p.k) (λ x. asks c (Open x p.r (p.a == 1))))
-    (pick (p.o == 21) (word c (there c p.k) (λ x. asks c (Find p.r p.a x)))
-    (pick (p.o == 22) (asks c (Close p.r))
-    (pick (p.o == 23) (asks c (End p.r)) (did c Stuck)))))))))))))))))))))))
+    cond (p.o == 1) (sets c p.r p.k)
+    (cond (p.o == 2) (reg c p.a (λ x. word c ((x + p.k) % all) (sets c p.r)))
+    (cond (p.o == 3) (reg c p.a (λ x. reg c p.r (λ y. word c ((x + p.k) % all) (λ old. stores c ((x + p.k) % all) y))))
+    (cond (p.o == 4) (sets c p.r (there c p.k))
+    (cond (p.o == 5) (two c p (λ x y. x + y))
+    (cond (p.o == 6) (two c p (λ x y. (x + all) - y))
+    (cond (p.o == 7) (two c p (λ x y. x * y))
+    (cond (p.o == 8) (two c p (λ x y. bit (nat_lt x y)))
+    (cond (p.o == 9) (two c p (λ x y. bit (x == y)))
+    (cond (p.o == 10) (reg c p.a (sets c p.r))
+    (cond (p.o == 11) (goes c (there c p.k))
+    (cond (p.o == 12) (reg c p.r (λ x. goes c (cond (x == 0) (there c p.k) (suc c.pc))))
+    (cond (p.o == 13) (through c (there c p.k))
+    (cond (p.o == 14) (reg c p.r (calls c))
+    (cond (p.o == 15) (returns c c.backs)
+    (cond (p.o == 16) (reg c p.r (pushes c))
+    (cond (p.o == 17) (pops c p.r c.pushed)
+    (cond (p.o == 18) (reg c p.r (shows c))
+    (cond (p.o == 19) (reads c p.r)
+    (cond (p.o == 20) (word c (there c p.k) (λ x. asks c (Open x p.r (p.a == 1))))
+    (cond (p.o == 21) (word c (there c p.k) (λ x. asks c (Find p.r p.a x)))
+    (cond (p.o == 22) (asks c (Close p.r))
+    (cond (p.o == 23) (asks c (End p.r)) (did c Stuck)))))))))))))))))))))))
 
 -- a step: home at address 0, else what the word says at which the processor is
 abbrev pub step : Processor → Did
-step c = pick (c.pc == 0) (did c Home) (word c c.pc (λ w. does c (parts w)))
+step c = cond (c.pc == 0) (did c Home) (word c c.pc (λ w. does c (parts w)))
 
 -- x in the word at address a
 abbrev pub poked : Processor → ℕ → ℕ → Processor
-poked c a x = record { words = put c.words a x; regs = c.regs; pc = c.pc; backs = c.backs; pushed = c.pushed; ins = c.ins; outs = c.outs }
+poked c a x = record { words = slice_set c.words a x; regs = c.regs; pc = c.pc; backs = c.backs; pushed = c.pushed; ins = c.ins; outs = c.outs }
 
 -- x in register r
 abbrev pub with_reg : Processor → ℕ → ℕ → Processor
-with_reg c r x = with_regs c (put c.regs r x) c.pc
+with_reg c r x = with_regs c (slice_set c.regs r x) c.pc
 
 -- about to go on at p, and to return to b
 abbrev pub called : Processor → ℕ → ℕ → Processor

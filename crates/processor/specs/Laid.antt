@@ -1,12 +1,11 @@
 -- Words laid down from an address on.
-use Rattle.std.specs.Prelude.{ℕ, suc, List, [], ◌∷◌}
-use Rattle.base.specs.Lists.{put}
+use Rattle.std.specs.Prelude.{ℕ, suc, List, [], ◌∷◌, slice_set}
 use Rattle.processor.specs.Cpu.{Processor}
 
 -- the words xs at address a and behind it
 abbrev pub laid : List ℕ → ℕ → List ℕ → List ℕ
 laid ws a [] = ws
-laid ws a (x ∷ xs) = laid (put ws a x) (suc a) xs
+laid ws a (x ∷ xs) = laid (slice_set ws a x) (suc a) xs
 
 -- the processor with other words
 abbrev pub with_words : Processor → List ℕ → Processor

@@ -1,6 +1,5 @@
 -- What holds of every step, of every instruction word, and of words laid down.
-use Rattle.std.specs.Prelude.{◌≡◌, ℕ, ◌+◌, ◌<◌, ◌≤◌, List, [], ◌∷◌, length}
-use Rattle.base.specs.Lists.{nth}
+use Rattle.std.specs.Prelude.{◌≡◌, ℕ, ◌+◌, ◌<◌, ◌≤◌, List, [], ◌∷◌, length, slice_get}
 use Rattle.processor.specs.Cpu.{Processor, step, does, parts}
 use Rattle.processor.specs.Operations.{act, decoded}
 use Rattle.processor.specs.Laid.{laid}
@@ -24,4 +23,4 @@ Decodes = (c : Processor) (w : ℕ) → does c (parts w) ≡ act c (decoded w)
 
 -- words laid down lie from their address on, and all others stay, as many as there were
 abbrev pub Lies : Type 0
-Lies = (ws : List ℕ) (a : ℕ) (xs : List ℕ) → a + length xs ≤ length ws → (length (laid ws a xs) ≡ length ws) × ((j : ℕ) → j < length xs → nth (laid ws a xs) (a + j) ≡ nth xs j) × ((j : ℕ) → j < a → nth (laid ws a xs) j ≡ nth ws j) × ((j : ℕ) → a + length xs ≤ j → nth (laid ws a xs) j ≡ nth ws j)
+Lies = (ws : List ℕ) (a : ℕ) (xs : List ℕ) → a + length xs ≤ length ws → (length (laid ws a xs) ≡ length ws) × ((j : ℕ) → j < length xs → slice_get (laid ws a xs) (a + j) ≡ slice_get xs j) × ((j : ℕ) → j < a → slice_get (laid ws a xs) j ≡ slice_get ws j) × ((j : ℕ) → a + length xs ≤ j → slice_get (laid ws a xs) j ≡ slice_get ws j)

@@ -1,6 +1,5 @@
 -- Instructions by kind, and what each does: the same as the definition by numbers.
-use Rattle.std.specs.Prelude.{ℕ, suc, ◌+◌, ◌-◌, ◌*◌, ◌%◌, Some, None, Option, ◌==◌, nat_lt}
-use Rattle.base.specs.Choices.{pick}
+use Rattle.std.specs.Prelude.{ℕ, suc, ◌+◌, ◌-◌, ◌*◌, ◌%◌, Some, None, Option, ◌==◌, nat_lt, cond}
 use Rattle.processor.specs.Cpu
 use Rattle.processor.specs.Cpu.{Processor, Did, Parts, parts, did, all, reg, word, sets, there, goes, stores, calls, through, returns, pushes, pops, shows, reads, asks, bit, computes}
 use Rattle.processor.specs.declared.words.Operation.{Operation}
@@ -9,29 +8,29 @@ use Rattle.processor.specs.declared.words.Operation.TheVariants.{Set, Load, Stor
 -- the instruction that a word's fields are
 abbrev pub kind : Parts → Option Operation
 kind p =
-    pick (p.o == 1) (Some (Set p.r p.k))
-    (pick (p.o == 2) (Some (Load p.r p.a p.k))
-    (pick (p.o == 3) (Some (Store p.a p.k p.r))
-    (pick (p.o == 4) (Some (Own p.r p.k))
-    (pick (p.o == 5) (Some (Add p.r p.a p.b))
-    (pick (p.o == 6) (Some (Sub p.r p.a p.b))
-    (pick (p.o == 7) (Some (Mul p.r p.a p.b))
-    (pick (p.o == 8) (Some (Less p.r p.a p.b))
-    (pick (p.o == 9) (Some (Same p.r p.a p.b))
-    (pick (p.o == 10) (Some (Move p.r p.a))
-    (pick (p.o == 11) (Some (Jump p.k))
-    (pick (p.o == 12) (Some (JumpIfZero p.r p.k))
-    (pick (p.o == 13) (Some (Call p.k))
-    (pick (p.o == 14) (Some (CallRegister p.r))
-    (pick (p.o == 15) (Some Return)
-    (pick (p.o == 16) (Some (Push p.r))
-    (pick (p.o == 17) (Some (Pop p.r))
-    (pick (p.o == 18) (Some (Out p.r))
-    (pick (p.o == 19) (Some (In p.r))
-    (pick (p.o == 20) (Some (Open p.r p.k (p.a == 1)))
-    (pick (p.o == 21) (Some (Find p.r p.a p.k))
-    (pick (p.o == 22) (Some (Close p.r))
-    (pick (p.o == 23) (Some (End p.r)) None))))))))))))))))))))))
+    cond (p.o == 1) (Some (Set p.r p.k))
+    (cond (p.o == 2) (Some (Load p.r p.a p.k))
+    (cond (p.o == 3) (Some (Store p.a p.k p.r))
+    (cond (p.o == 4) (Some (Own p.r p.k))
+    (cond (p.o == 5) (Some (Add p.r p.a p.b))
+    (cond (p.o == 6) (Some (Sub p.r p.a p.b))
+    (cond (p.o == 7) (Some (Mul p.r p.a p.b))
+    (cond (p.o == 8) (Some (Less p.r p.a p.b))
+    (cond (p.o == 9) (Some (Same p.r p.a p.b))
+    (cond (p.o == 10) (Some (Move p.r p.a))
+    (cond (p.o == 11) (Some (Jump p.k))
+    (cond (p.o == 12) (Some (JumpIfZero p.r p.k))
+    (cond (p.o == 13) (Some (Call p.k))
+    (cond (p.o == 14) (Some (CallRegister p.r))
+    (cond (p.o == 15) (Some Return)
+    (cond (p.o == 16) (Some (Push p.r))
+    (cond (p.o == 17) (Some (Pop p.r))
+    (cond (p.o == 18) (Some (Out p.r))
+    (cond (p.o == 19) (Some (In p.r))
+    (cond (p.o == 20) (Some (Open p.r p.k (p.a == 1)))
+    (cond (p.o == 21) (Some (Find p.r p.a p.k))
+    (cond (p.o == 22) (Some (Close p.r))
+    (cond (p.o == 23) (Some (End p.r)) None))))))))))))))))))))))
 
 -- the instruction that a word is, if it is one
 abbrev pub decoded : ℕ → Option Operation
@@ -50,7 +49,7 @@ acts c (Less r a b) = computes c r a b (λ x y. bit (nat_lt x y))
 acts c (Same r a b) = computes c r a b (λ x y. bit (x == y))
 acts c (Move r a) = reg c a (sets c r)
 acts c (Jump k) = goes c (there c k)
-acts c (JumpIfZero r k) = reg c r (λ x. goes c (pick (x == 0) (there c k) (suc c.pc)))
+acts c (JumpIfZero r k) = reg c r (λ x. goes c (cond (x == 0) (there c k) (suc c.pc)))
 acts c (Call k) = through c (there c k)
 acts c (CallRegister r) = reg c r (calls c)
 acts c Return = returns c c.backs

@@ -1,7 +1,6 @@
 -- Line after line, up to the end of the text.
+use Rattle.std.specs.Prelude.{None}
 use Rattle.std.proofs.Common.{◌≡◌, ℕ, suc, ◌+◌, ◌/◌, ◌<◌, ◌≤◌, List, [], ◌∷◌, map, length, Option, sym, refl, ap, ◌∙◌, subst, arith}
-use mathlib.Core.Option.{none}
-use Rattle.std.specs.declared.option.Option.TheVariants as opt
 use Rattle.std.specs.List.{AllByRecursion}
 use Rattle.std.proofs.lemmas.Slice.{between_to_end}
 use Rattle.base.specs.Choices.{on_ok}
@@ -48,7 +47,7 @@ named_none p e h = record { holds = (let P : ℕ → Type 0 = λ m. Holds p.name
 all_bytes : (x : Name) → bytes x (record { start = 0; end = length x }) ≡ x
 all_bytes x = between_to_end x 0 (length x) (omega arith)
 
-pub going_start : (p : Parts) (r : Reader) → Blank p → length p.tables.text.now / 2 < p.tables.rows → ((c : ℕ) → pieces c r ≡ cut c [] (bytes p.tables.text.now (record { start = 0; end = length p.tables.text.now }))) → r.text.now ≡ p.tables.text.now → size r ≡ suc (length (bytes p.tables.text.now (record { start = 0; end = length p.tables.text.now }))) → Going p 1 opt.None r p.tables.text.now
+pub going_start : (p : Parts) (r : Reader) → Blank p → length p.tables.text.now / 2 < p.tables.rows → ((c : ℕ) → pieces c r ≡ cut c [] (bytes p.tables.text.now (record { start = 0; end = length p.tables.text.now }))) → r.text.now ≡ p.tables.text.now → size r ≡ suc (length (bytes p.tables.text.now (record { start = 0; end = length p.tables.text.now }))) → Going p 1 None r p.tables.text.now
 unfolding read
 going_start p r b l e g s =
     let z : size r ≡ suc (length p.tables.text.now) = s ∙ ap (λ w. suc (length w)) (all_bytes p.tables.text.now) in
@@ -59,7 +58,7 @@ going_start p r b l e g s =
       room = record { libs = omega (arith, b.libs); needs = omega (arith, b.needs); defs = omega (arith, b.defs); inits = omega (arith, b.inits); finis = omega (arith, b.finis); cells = omega (arith, b.cells) };
       number = omega arith;
       short = omega (arith, b.small);
-      reads = ap (λ ls. lines 1 (record { done = ls; draft = none }) (map words_of (pieces 10 r))) (no_libraries p.tables b.libs) ∙ ap (λ q. lines 1 nothing_read (map words_of q)) (e 10 ∙ ap lines_of (all_bytes p.tables.text.now));
+      reads = ap (λ ls. lines 1 (record { done = ls; draft = None }) (map words_of (pieces 10 r))) (no_libraries p.tables b.libs) ∙ ap (λ q. lines 1 nothing_read (map words_of q)) (e 10 ∙ ap lines_of (all_bytes p.tables.text.now));
     }
 
 few_rows : (l : Name) → takes_rows (words_of l) ≤ length l

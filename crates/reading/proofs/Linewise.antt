@@ -1,11 +1,10 @@
 -- One line after the other: what each does to the tables, and that it is what the text says.
+use Rattle.std.specs.Prelude.{None}
+use Rattle.std.specs.Prelude.{Some, cond, is_some}
 use Rattle.std.proofs.Common.{◌≡◌, ℕ, zero, suc, ◌+◌, ◌<◌, ◌≤◌, Bool, true, false, ◌&&◌, ltb, List, [], ◌∷◌, ◌++◌, length, get_or, set, Ok, Err, Option, Result, sym, refl, ap, ◌∙◌, subst, arith}
-use mathlib.Core.Option.{some}
-use Rattle.std.specs.declared.option.Option.TheVariants as opt
 use Rattle.std.proofs.lemmas.List.{length-map, length-set, map_push}
 use Rattle.std.proofs.lemmas.Bool.{lt-ltb, and_from}
-use Rattle.base.specs.Choices as choices
-use Rattle.base.specs.Choices.{pick, has_value, on_ok}
+use Rattle.base.specs.Choices.{opt, on_ok}
 use Rattle.base.specs.Names.{Name, same}
 use Rattle.text.specs.Words.{cut, full, words_of}
 use Rattle.text.specs.Readers.{bytes, pieces, words}
@@ -38,14 +37,14 @@ named_more t u x y d h n c l e p f =
     let Q : ℕ → Type 0 = λ m. Holds y (buckets (length y.heads.now) (libraries u)) m in
     record { holds = subst Q (sym c.count) (subst P (sym b) g); within = omega (arith, c.count) }
 
-pub shut : (p : Parts) (u : Tables) (y : Index) (d : Draft) (x : Name) (h : ℕ) (r : Bool) → Kept p (opt.Some d) → Room p.tables 1 0 → Closed p.tables u d → x ≡ bytes p.tables.text.now d.name → h ≡ bucket_of x (length p.names.heads.now) → (0 < length p.names.heads.now → h < length p.names.heads.now) → r ≡ (ltb h (length p.names.heads.now) && ltb p.tables.libs.len (length p.names.next.now)) → y.heads.now ≡ pick r (set p.names.heads.now h (p.tables.libs.len + 1)) p.names.heads.now → y.next.now ≡ pick r (set p.names.next.now p.tables.libs.len (get_or p.names.heads.now h 0)) p.names.next.now → (r ≡ true → (bs : List ℕ) → length bs ≡ p.tables.libs.len → Holds p.names bs p.tables.libs.len → Holds y (bs ++ h ∷ []) (p.tables.libs.len + 1)) → Shut p (record { tables = u; names = y }) d
+pub shut : (p : Parts) (u : Tables) (y : Index) (d : Draft) (x : Name) (h : ℕ) (r : Bool) → Kept p (Some d) → Room p.tables 1 0 → Closed p.tables u d → x ≡ bytes p.tables.text.now d.name → h ≡ bucket_of x (length p.names.heads.now) → (0 < length p.names.heads.now → h < length p.names.heads.now) → r ≡ (ltb h (length p.names.heads.now) && ltb p.tables.libs.len (length p.names.next.now)) → y.heads.now ≡ cond r (set p.names.heads.now h (p.tables.libs.len + 1)) p.names.heads.now → y.next.now ≡ cond r (set p.names.next.now p.tables.libs.len (get_or p.names.heads.now h 0)) p.names.next.now → (r ≡ true → (bs : List ℕ) → length bs ≡ p.tables.libs.len → Holds p.names bs p.tables.libs.len → Holds y (bs ++ h ∷ []) (p.tables.libs.len + 1)) → Shut p (record { tables = u; names = y }) d
 unfolding library_from store
 shut p u y d x h r k m c e f g v hs ns grown =
     let a : h < length p.names.heads.now = g (omega (arith, k.some, k.roomy.heads)) in
     let b : p.tables.libs.len < length p.names.next.now = omega (arith, m.libs, k.roomy.next) in
     let t : r ≡ true = v ∙ and_from _ _ (lt-ltb h _ a) (lt-ltb _ _ b) in
-    let i = ap length (hs ∙ ap (λ z. pick z (set p.names.heads.now h (p.tables.libs.len + 1)) p.names.heads.now) t) ∙ length-set p.names.heads.now h (p.tables.libs.len + 1) in
-    let j = ap length (ns ∙ ap (λ z. pick z (set p.names.next.now p.tables.libs.len (get_or p.names.heads.now h 0)) p.names.next.now) t) ∙ length-set p.names.next.now p.tables.libs.len (get_or p.names.heads.now h 0) in
+    let i = ap length (hs ∙ ap (λ z. cond z (set p.names.heads.now h (p.tables.libs.len + 1)) p.names.heads.now) t) ∙ length-set p.names.heads.now h (p.tables.libs.len + 1) in
+    let j = ap length (ns ∙ ap (λ z. cond z (set p.names.next.now p.tables.libs.len (get_or p.names.heads.now h 0)) p.names.next.now) t) ∙ length-set p.names.next.now p.tables.libs.len (get_or p.names.heads.now h 0) in
     record {
       text = c.text;
       rows = c.rows;
@@ -54,21 +53,21 @@ shut p u y d x h r k m c e f g v hs ns grown =
       room = c.room;
     }
 
-pub finish_some : (p q : Parts) (o : Option Draft) (d : Draft) → o ≡ opt.Some d → checked (draft_of (store p.tables) d) ≡ Ok (library_from (store p.tables) d) → Shut p q d → Finished p q o
+pub finish_some : (p q : Parts) (o : Option Draft) (d : Draft) → o ≡ Some d → checked (draft_of (store p.tables) d) ≡ Ok (library_from (store p.tables) d) → Shut p q d → Finished p q o
 finish_some p q o d e c s = let P : Option Draft → Type 0 = Finished p q in subst P (sym e) (record { text = s.text; rows = s.rows; kept = s.kept; done = ap (λ r. on_ok r (λ l. Ok (libraries p.tables ++ (l ∷ [])))) c ∙ ap Ok (sym s.done); room = s.room })
 
 -- a name that there is
-has_found : (ls : List Library) (k : ℕ) (x : Name) → HasName ls k x → has_value (find_library ls x) ≡ true
+has_found : (ls : List Library) (k : ℕ) (x : Name) → HasName ls k x → is_some (find_library ls x) ≡ true
 has_found [] k x h = let z : ◌≡◌ {A = ℕ} 0 1 = cc in absurd (omega arith)
-has_found (l ∷ ls) zero x h = ap (λ b. has_value (pick b (some l) (find_library ls x))) h
+has_found (l ∷ ls) zero x h = ap (λ b. is_some (cond b (Some l) (find_library ls x))) h
 has_found (l ∷ ls) (suc k) x h = go (same l.name x) (has_found ls k x h)
   where
-    go : (b : Bool) → has_value (find_library ls x) ≡ true → has_value (pick b (some l) (find_library ls x)) ≡ true
+    go : (b : Bool) → is_some (find_library ls x) ≡ true → is_some (cond b (Some l) (find_library ls x)) ≡ true
     go true e = refl
     go false e = e
 
 pub name_taken : (ls : List Library) (ws us : List Name) (x y : Name) (k : ℕ) → takes a_word ws ≡ Ok (x, us) → y ≡ x → HasName ls k y → lib_words ls ws ≡ Err DuplicateLibrary
-name_taken ls ws us x y k e f h = ap (λ r. on_ok r (λ p. pick (has_value (find_library ls p.0)) (Err DuplicateLibrary) (end_line p.0 p.1))) e ∙ ap (λ b. pick b (Err DuplicateLibrary) (end_line x us)) (ap (λ z. has_value (find_library ls z)) (sym f) ∙ has_found ls k y h)
+name_taken ls ws us x y k e f h = ap (λ r. on_ok r (λ p. cond (is_some (find_library ls p.0)) (Err DuplicateLibrary) (end_line p.0 p.1))) e ∙ ap (λ b. cond b (Err DuplicateLibrary) (end_line x us)) (ap (λ z. is_some (find_library ls z)) (sym f) ∙ has_found ls k y h)
 
 -- a library begins
 pub began : (p q : Parts) (n : ℕ) (o : Option Draft) (d : Draft) (x : Name) (ws : List Name) → Finished p q o → lib_words (libraries q.tables) ws ≡ Ok x → draft_of (store q.tables) d ≡ new_draft x → Starts (store q.tables) d → Began p q n o d ws
@@ -76,7 +75,7 @@ began p q n o d x ws f e g s = record {
   text = f.text;
   rows = f.rows;
   kept = record { fits = f.kept.fits; wide = f.kept.wide; sound = f.kept.sound; begun = s; named = f.kept.named; roomy = f.kept.roomy; some = f.kept.some };
-  line = ap (λ r. on_ok r (λ ls. on_ok (at_line_number n (lib_words ls ws)) (λ y. Ok (record { done = ls; draft = some (new_draft y) })))) f.done ∙ ap (λ r. on_ok (at_line_number n r) (λ y. Ok (record { done = libraries q.tables; draft = some (new_draft y) }))) e ∙ ap (λ y. Ok (record { done = libraries q.tables; draft = some y })) (sym g);
+  line = ap (λ r. on_ok r (λ ls. on_ok (at_line_number n (lib_words ls ws)) (λ y. Ok (record { done = ls; draft = Some (new_draft y) })))) f.done ∙ ap (λ r. on_ok (at_line_number n r) (λ y. Ok (record { done = libraries q.tables; draft = Some (new_draft y) }))) e ∙ ap (λ y. Ok (record { done = libraries q.tables; draft = Some y })) (sym g);
   room = λ m h. let r = f.room (m + 1) h in record { libs = omega arith; needs = omega arith; defs = omega arith; inits = omega arith; finis = omega arith; cells = omega arith };
 }
 
@@ -87,12 +86,12 @@ named_same t u x e c n =
     let Q : ℕ → Type 0 = λ m. Holds x (buckets (length x.heads.now) (libraries u)) m in
     record { holds = subst Q (sym c) (subst P (sym e) n.holds); within = omega (arith, n.within) }
 
-pub itemed : (p : Parts) (u : Tables) (n : ℕ) (d r : Draft) (w : Name) (ws : List Name) (i j : Item) → Kept p (opt.Some d) → item_line w ws ≡ Ok j → j ≡ i → Put p.tables u n d r i → sized n (draft_of (store u) r) ≡ Ok (draft_of (store u) r) → Itemed p (record { tables = u; names = p.names }) n d r w ws
+pub itemed : (p : Parts) (u : Tables) (n : ℕ) (d r : Draft) (w : Name) (ws : List Name) (i j : Item) → Kept p (Some d) → item_line w ws ≡ Ok j → j ≡ i → Put p.tables u n d r i → sized n (draft_of (store u) r) ≡ Ok (draft_of (store u) r) → Itemed p (record { tables = u; names = p.names }) n d r w ws
 itemed p u n d r w ws i j k e f t z = record {
   text = t.text;
   rows = t.rows;
   kept = record { fits = t.fits; wide = t.wide; sound = t.sound; begun = t.starts; named = named_same p.tables u p.names t.done t.count k.named; roomy = record { next = omega (arith, k.roomy.next, t.rows); heads = omega (arith, k.roomy.heads, t.rows) }; some = omega (arith, k.some, t.rows) };
-  line = ap (λ v. on_ok (at_line_number n v) (λ i. on_ok (sized n (drafted n (draft_of (store p.tables) d) i)) (λ e. Ok (record { done = libraries p.tables; draft = some e })))) (e ∙ ap Ok f) ∙ ap (λ v. on_ok v (λ e. Ok (record { done = libraries p.tables; draft = some e }))) (ap (sized n) (sym t.draft) ∙ z) ∙ ap (λ ls. Ok (record { done = ls; draft = some (draft_of (store u) r) })) (sym t.done);
+  line = ap (λ v. on_ok (at_line_number n v) (λ i. on_ok (sized n (drafted n (draft_of (store p.tables) d) i)) (λ e. Ok (record { done = libraries p.tables; draft = Some e })))) (e ∙ ap Ok f) ∙ ap (λ v. on_ok v (λ e. Ok (record { done = libraries p.tables; draft = Some e }))) (ap (sized n) (sym t.draft) ∙ z) ∙ ap (λ ls. Ok (record { done = ls; draft = Some (draft_of (store u) r) })) (sym t.done);
   room = t.room 1;
 }
 
@@ -106,21 +105,21 @@ heads n r t part first w e f g h = words_new n t part e ∙ f ∙ ap (λ x. x �
 
 -- a line by its first word
 abbrev said : ℕ → Progress → Name → List Name → Result Progress BadLine
-said n p w us = pick (same w k_lib) (lib_line n p us) (choices.opt p.draft (Err (bad n OutsideLibrary)) (λ d. library_item n p d w us))
+said n p w us = cond (same w k_lib) (lib_line n p us) (opt p.draft (Err (bad n OutsideLibrary)) (λ d. library_item n p d w us))
 
 line_mute : (n : ℕ) (p : Progress) (w : Name) (us : List Name) → mute w ≡ true → line n p (w ∷ us) ≡ Ok p
 line_mute n p [] us e = refl
-line_mute n p (c ∷ cs) us e = ap (λ b. pick b (Ok p) (said n p (c ∷ cs) us)) e
+line_mute n p (c ∷ cs) us e = ap (λ b. cond b (Ok p) (said n p (c ∷ cs) us)) e
 
 line_said : (n : ℕ) (p : Progress) (w : Name) (us : List Name) → mute w ≡ false → line n p (w ∷ us) ≡ said n p w us
 line_said n p [] us e = let z : ◌≡◌ {A = ℕ} 0 1 = cc in absurd (omega arith)
-line_said n p (c ∷ cs) us e = ap (λ b. pick b (Ok p) (said n p (c ∷ cs) us)) e
+line_said n p (c ∷ cs) us e = ap (λ b. cond b (Ok p) (said n p (c ∷ cs) us)) e
 
 line_lib : (n : ℕ) (p : Progress) (w : Name) (us ws : List Name) → ws ≡ w ∷ us → false ≡ mute w → true ≡ same w k_lib → line n p ws ≡ lib_line n p us
-line_lib n p w us ws e f g = ap (line n p) e ∙ line_said n p w us (sym f) ∙ ap (λ b. pick b (lib_line n p us) (choices.opt p.draft (Err (bad n OutsideLibrary)) (λ d. library_item n p d w us))) (sym g)
+line_lib n p w us ws e f g = ap (line n p) e ∙ line_said n p w us (sym f) ∙ ap (λ b. cond b (lib_line n p us) (opt p.draft (Err (bad n OutsideLibrary)) (λ d. library_item n p d w us))) (sym g)
 
-line_in : (n : ℕ) (p : Progress) (w : Name) (us ws : List Name) → ws ≡ w ∷ us → false ≡ mute w → false ≡ same w k_lib → line n p ws ≡ choices.opt p.draft (Err (bad n OutsideLibrary)) (λ d. library_item n p d w us)
-line_in n p w us ws e f g = ap (line n p) e ∙ line_said n p w us (sym f) ∙ ap (λ b. pick b (lib_line n p us) (choices.opt p.draft (Err (bad n OutsideLibrary)) (λ d. library_item n p d w us))) (sym g)
+line_in : (n : ℕ) (p : Progress) (w : Name) (us ws : List Name) → ws ≡ w ∷ us → false ≡ mute w → false ≡ same w k_lib → line n p ws ≡ opt p.draft (Err (bad n OutsideLibrary)) (λ d. library_item n p d w us)
+line_in n p w us ws e f g = ap (line n p) e ∙ line_said n p w us (sym f) ∙ ap (λ b. cond b (lib_line n p us) (opt p.draft (Err (bad n OutsideLibrary)) (λ d. library_item n p d w us))) (sym g)
 
 pub room_less : (t : Tables) (o n m : ℕ) → m ≤ n → Room t o n → Room t o m
 room_less t o n m l h = record { libs = omega arith; needs = omega arith; defs = omega arith; inits = omega arith; finis = omega arith; cells = omega arith }
@@ -143,22 +142,22 @@ room_one t o w us ws e h = let P : ℕ → Type 0 = Room t o in subst P (one_row
 room_plus : (t : Tables) (o m : ℕ) (w : Name) (us ws : List Name) → ws ≡ w ∷ us → Room t o (m + takes_rows ws) → Room t o (m + 1)
 room_plus t o m w us ws e h = let P : ℕ → Type 0 = λ k. Room t o (m + k) in subst P (one_row w us ws e) h
 
-pub lined_lib : (p q : Parts) (n : ℕ) (o : Option Draft) (d : Draft) (w : Name) (us ws : List Name) → Began p q n o d us → ws ≡ w ∷ us → false ≡ mute w → true ≡ same w k_lib → Lined p q n o (opt.Some d) ws
+pub lined_lib : (p q : Parts) (n : ℕ) (o : Option Draft) (d : Draft) (w : Name) (us ws : List Name) → Began p q n o d us → ws ≡ w ∷ us → false ≡ mute w → true ≡ same w k_lib → Lined p q n o (Some d) ws
 lined_lib p q n o d w us ws b e f g = record { text = b.text; rows = b.rows; kept = b.kept; line = line_lib n (progress (store p.tables) o) w us ws e f g ∙ b.line; room = λ m h. b.room m (room_plus p.tables (opened o) m w us ws e h) }
 
 pub bad_lib : (p : Parts) (n : ℕ) (o : Option Draft) (w : Name) (us ws : List Name) (x : BadLine) → lib_line n (progress (store p.tables) o) us ≡ Err x → ws ≡ w ∷ us → false ≡ mute w → true ≡ same w k_lib → line n (progress (store p.tables) o) ws ≡ Err x
 bad_lib p n o w us ws x b e f g = line_lib n (progress (store p.tables) o) w us ws e f g ∙ b
 
-pub bad_outside : (p : Parts) (n : ℕ) (o : Option Draft) (w : Name) (us ws : List Name) → o ≡ opt.None → ws ≡ w ∷ us → false ≡ mute w → false ≡ same w k_lib → line n (progress (store p.tables) o) ws ≡ Err (bad n OutsideLibrary)
-bad_outside p n o w us ws h e f g = line_in n (progress (store p.tables) o) w us ws e f g ∙ ap (λ q. choices.opt (drafts (store p.tables) q) (Err (bad n OutsideLibrary)) (λ d. library_item n (progress (store p.tables) o) d w us)) h
+pub bad_outside : (p : Parts) (n : ℕ) (o : Option Draft) (w : Name) (us ws : List Name) → o ≡ None → ws ≡ w ∷ us → false ≡ mute w → false ≡ same w k_lib → line n (progress (store p.tables) o) ws ≡ Err (bad n OutsideLibrary)
+bad_outside p n o w us ws h e f g = line_in n (progress (store p.tables) o) w us ws e f g ∙ ap (λ q. opt (drafts (store p.tables) q) (Err (bad n OutsideLibrary)) (λ d. library_item n (progress (store p.tables) o) d w us)) h
 
-in_draft : (p : Parts) (n : ℕ) (o : Option Draft) (d : Draft) (w : Name) (us ws : List Name) → o ≡ opt.Some d → ws ≡ w ∷ us → false ≡ mute w → false ≡ same w k_lib → line n (progress (store p.tables) o) ws ≡ library_item n (progress (store p.tables) (opt.Some d)) (draft_of (store p.tables) d) w us
-in_draft p n o d w us ws h e f g = line_in n (progress (store p.tables) o) w us ws e f g ∙ ap (λ q. choices.opt (drafts (store p.tables) q) (Err (bad n OutsideLibrary)) (λ d. library_item n (progress (store p.tables) q) d w us)) h
+in_draft : (p : Parts) (n : ℕ) (o : Option Draft) (d : Draft) (w : Name) (us ws : List Name) → o ≡ Some d → ws ≡ w ∷ us → false ≡ mute w → false ≡ same w k_lib → line n (progress (store p.tables) o) ws ≡ library_item n (progress (store p.tables) (Some d)) (draft_of (store p.tables) d) w us
+in_draft p n o d w us ws h e f g = line_in n (progress (store p.tables) o) w us ws e f g ∙ ap (λ q. opt (drafts (store p.tables) q) (Err (bad n OutsideLibrary)) (λ d. library_item n (progress (store p.tables) q) d w us)) h
 
-pub bad_item : (p : Parts) (n : ℕ) (o : Option Draft) (d : Draft) (w : Name) (us ws : List Name) (x : BadLine) → o ≡ opt.Some d → library_item n (progress (store p.tables) (opt.Some d)) (draft_of (store p.tables) d) w us ≡ Err x → ws ≡ w ∷ us → false ≡ mute w → false ≡ same w k_lib → line n (progress (store p.tables) o) ws ≡ Err x
+pub bad_item : (p : Parts) (n : ℕ) (o : Option Draft) (d : Draft) (w : Name) (us ws : List Name) (x : BadLine) → o ≡ Some d → library_item n (progress (store p.tables) (Some d)) (draft_of (store p.tables) d) w us ≡ Err x → ws ≡ w ∷ us → false ≡ mute w → false ≡ same w k_lib → line n (progress (store p.tables) o) ws ≡ Err x
 bad_item p n o d w us ws x h b e f g = in_draft p n o d w us ws h e f g ∙ b
 
-pub lined_item : (p q : Parts) (n : ℕ) (o : Option Draft) (d r : Draft) (w : Name) (us ws : List Name) → o ≡ opt.Some d → Itemed p q n d r w us → ws ≡ w ∷ us → false ≡ mute w → false ≡ same w k_lib → Lined p q n o (opt.Some r) ws
+pub lined_item : (p q : Parts) (n : ℕ) (o : Option Draft) (d r : Draft) (w : Name) (us ws : List Name) → o ≡ Some d → Itemed p q n d r w us → ws ≡ w ∷ us → false ≡ mute w → false ≡ same w k_lib → Lined p q n o (Some r) ws
 lined_item p q n o d r w us ws h b e f g = record {
   text = b.text;
   rows = b.rows;

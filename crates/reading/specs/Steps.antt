@@ -1,6 +1,6 @@
 -- What reading a line, and all lines, does to the tables.
+use Rattle.std.specs.Prelude.{None, Some}
 use Rattle.std.specs.Prelude.{◌≡◌, ℕ, ◌+◌, ◌*◌, ◌/◌, ◌<◌, ◌≤◌, Bool, true, List, [], ◌∷◌, ◌++◌, length, Ok, Err, Option, ◌==◌}
-use Rattle.std.specs.declared.option.Option.TheVariants as opt
 use Rattle.base.specs.Names.{Name}
 use Rattle.library.specs.Text as reading
 use Rattle.library.specs.declared.faults.ReadFault.{ReadFault}
@@ -29,7 +29,7 @@ pub record Ready (p : Parts) : Type 0 where
 pub record Shut (p q : Parts) (d : Draft) : Type 0 where
   pub text : q.tables.text.now ≡ p.tables.text.now
   pub rows : q.tables.rows ≡ p.tables.rows
-  pub kept : Kept q opt.None
+  pub kept : Kept q None
   pub done : libraries q.tables ≡ libraries p.tables ++ library_from (store p.tables) d ∷ []
   pub room : (n : ℕ) → Room p.tables 1 n → Room q.tables 0 n
 
@@ -37,7 +37,7 @@ pub record Shut (p q : Parts) (d : Draft) : Type 0 where
 pub record Finished (p q : Parts) (o : Option Draft) : Type 0 where
   pub text : q.tables.text.now ≡ p.tables.text.now
   pub rows : q.tables.rows ≡ p.tables.rows
-  pub kept : Kept q opt.None
+  pub kept : Kept q None
   pub done : reading.finished (progress (store p.tables) o) ≡ Ok (libraries q.tables)
   pub room : (n : ℕ) → Room p.tables (opened o) n → Room q.tables 0 n
 
@@ -45,16 +45,16 @@ pub record Finished (p q : Parts) (o : Option Draft) : Type 0 where
 pub record Began (p q : Parts) (n : ℕ) (o : Option Draft) (d : Draft) (ws : List Name) : Type 0 where
   pub text : q.tables.text.now ≡ p.tables.text.now
   pub rows : q.tables.rows ≡ p.tables.rows
-  pub kept : Kept q (opt.Some d)
-  pub line : reading.lib_line n (progress (store p.tables) o) ws ≡ Ok (progress (store q.tables) (opt.Some d))
+  pub kept : Kept q (Some d)
+  pub line : reading.lib_line n (progress (store p.tables) o) ws ≡ Ok (progress (store q.tables) (Some d))
   pub room : (m : ℕ) → Room p.tables (opened o) (m + 1) → Room q.tables 1 m
 
 -- line n, with the first word w and the words ws behind it, made e of the draft d
 pub record Itemed (p q : Parts) (n : ℕ) (d e : Draft) (w : Name) (ws : List Name) : Type 0 where
   pub text : q.tables.text.now ≡ p.tables.text.now
   pub rows : q.tables.rows ≡ p.tables.rows
-  pub kept : Kept q (opt.Some e)
-  pub line : reading.library_item n (progress (store p.tables) (opt.Some d)) (draft_of (store p.tables) d) w ws ≡ Ok (progress (store q.tables) (opt.Some e))
+  pub kept : Kept q (Some e)
+  pub line : reading.library_item n (progress (store p.tables) (Some d)) (draft_of (store p.tables) d) w ws ≡ Ok (progress (store q.tables) (Some e))
   pub room : (m : ℕ) → Room p.tables 1 (m + 1) → Room q.tables 1 m
 
 -- a line that begins with this word says nothing

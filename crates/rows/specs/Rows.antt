@@ -1,8 +1,7 @@
 -- What rows of words stand for, in a text: any words stand for something.
-use Rattle.std.specs.Prelude.{ℕ, ◌%◌, true, false, List, ◌==◌, slice_index}
-use Rattle.std.proofs.Math.Option.{Option, some, none}
+use Rattle.std.specs.Prelude.{ℕ, ◌%◌, true, false, List, ◌==◌, slice_index, None, Option, Some, cond}
 use Rattle.std.specs.List.{between}
-use Rattle.base.specs.Choices.{pick, opt}
+use Rattle.base.specs.Choices.{opt}
 use Rattle.base.specs.Names.{Name}
 use Rattle.library.specs.Library.{Symbol, Definition, Cell, number, ref, at, slot, named, instruction, Instruction}
 use Rattle.library.specs.Library as library
@@ -26,39 +25,39 @@ definition_at t r = record { symbol = symbol_at t (slice_index r 0) (slice_index
 -- an instruction, by its number, 1 to 23, and its operands
 abbrev pub instruction_at : ℕ → ℕ → ℕ → ℕ → Option Instruction
 instruction_at k a b c =
-    pick (k == 1) (some (library.Set (a % 8) (b % 4294967296)))
-    (pick (k == 2) (some (library.Get (a % 8) (b % 8) (c % 4294967296)))
-    (pick (k == 3) (some (library.Sto (a % 8) (b % 4294967296) (c % 8)))
-    (pick (k == 4) (some (library.Own (a % 8) (b % 65536)))
-    (pick (k == 5) (some (library.Add (a % 8) (b % 8) (c % 8)))
-    (pick (k == 6) (some (library.Sub (a % 8) (b % 8) (c % 8)))
-    (pick (k == 7) (some (library.Mul (a % 8) (b % 8) (c % 8)))
-    (pick (k == 8) (some (library.Less (a % 8) (b % 8) (c % 8)))
-    (pick (k == 9) (some (library.Same (a % 8) (b % 8) (c % 8)))
-    (pick (k == 10) (some (library.Move (a % 8) (b % 8)))
-    (pick (k == 11) (some (library.Jump (a % 65536)))
-    (pick (k == 12) (some (library.If0 (a % 8) (b % 65536)))
-    (pick (k == 13) (some (library.Call (a % 65536)))
-    (pick (k == 14) (some (library.Callr (a % 8)))
-    (pick (k == 15) (some library.Ret)
-    (pick (k == 16) (some (library.Push (a % 8)))
-    (pick (k == 17) (some (library.Pop (a % 8)))
-    (pick (k == 18) (some (library.Out (a % 8)))
-    (pick (k == 19) (some (library.In (a % 8)))
-    (pick (k == 20) (some (library.Open (a % 8) (b % 65536) (c == 1)))
-    (pick (k == 21) (some (library.Find (a % 8) (b % 8) (c % 65536)))
-    (pick (k == 22) (some (library.Close (a % 8)))
-    (pick (k == 23) (some (library.End (a % 8)))
-    none))))))))))))))))))))))
+    cond (k == 1) (Some (library.Set (a % 8) (b % 4294967296)))
+    (cond (k == 2) (Some (library.Get (a % 8) (b % 8) (c % 4294967296)))
+    (cond (k == 3) (Some (library.Sto (a % 8) (b % 4294967296) (c % 8)))
+    (cond (k == 4) (Some (library.Own (a % 8) (b % 65536)))
+    (cond (k == 5) (Some (library.Add (a % 8) (b % 8) (c % 8)))
+    (cond (k == 6) (Some (library.Sub (a % 8) (b % 8) (c % 8)))
+    (cond (k == 7) (Some (library.Mul (a % 8) (b % 8) (c % 8)))
+    (cond (k == 8) (Some (library.Less (a % 8) (b % 8) (c % 8)))
+    (cond (k == 9) (Some (library.Same (a % 8) (b % 8) (c % 8)))
+    (cond (k == 10) (Some (library.Move (a % 8) (b % 8)))
+    (cond (k == 11) (Some (library.Jump (a % 65536)))
+    (cond (k == 12) (Some (library.If0 (a % 8) (b % 65536)))
+    (cond (k == 13) (Some (library.Call (a % 65536)))
+    (cond (k == 14) (Some (library.Callr (a % 8)))
+    (cond (k == 15) (Some library.Ret)
+    (cond (k == 16) (Some (library.Push (a % 8)))
+    (cond (k == 17) (Some (library.Pop (a % 8)))
+    (cond (k == 18) (Some (library.Out (a % 8)))
+    (cond (k == 19) (Some (library.In (a % 8)))
+    (cond (k == 20) (Some (library.Open (a % 8) (b % 65536) (c == 1)))
+    (cond (k == 21) (Some (library.Find (a % 8) (b % 8) (c % 65536)))
+    (cond (k == 22) (Some (library.Close (a % 8)))
+    (cond (k == 23) (Some (library.End (a % 8)))
+    None))))))))))))))))))))))
 
 -- a cell that is no instruction, by its number, 24 to 29, and the words behind it
 abbrev pub plain_at : List ℕ → ℕ → ℕ → ℕ → ℕ → ℕ → ℕ → Cell
 plain_at t k a b c d e =
-    pick (k == 24) (number (a % 4294967296))
-    (pick (k == 25) (ref (symbol_at t a b c d) (e % 4294967296) false)
-    (pick (k == 26) (ref (symbol_at t a b c d) (e % 4294967296) true)
-    (pick (k == 27) (at (a % 65536))
-    (pick (k == 28) (slot (symbol_at t a b c d))
+    cond (k == 24) (number (a % 4294967296))
+    (cond (k == 25) (ref (symbol_at t a b c d) (e % 4294967296) false)
+    (cond (k == 26) (ref (symbol_at t a b c d) (e % 4294967296) true)
+    (cond (k == 27) (at (a % 65536))
+    (cond (k == 28) (slot (symbol_at t a b c d))
     (named (between a b t))))))
 
 -- a cell, by its number and the words behind it

@@ -1,5 +1,5 @@
+ghost use Rattle.std.specs.Option.{option_map};
 ghost use Rattle.std.specs.Prelude.{◌≡◌, ℕ, ◌+◌, ◌%◌, ◌<◌, List, slice_index};
-ghost use Rattle.base.specs.Choices.{found, over};
 ghost use Rattle.text.specs.Readers.{bytes};
 ghost use Rattle.library.specs.Views.{reg, cell_no, instruction_of, definition_of, cell_of};
 ghost use Rattle.rows.specs.Rows.{name_at, number_at, definition_at, instruction_at, plain_at, cell_at};
@@ -73,7 +73,7 @@ pub fn definition(row: &[u64]) -> Definition<Span>
 
 // The instruction of a number and operands.
 fn instruction(kind: u64, a: u64, b: u64, c: u64) -> Option<Instruction>
-    ensures { over instruction_of (found result) ≡ instruction_at kind a b c }
+    ensures { option_map instruction_of result ≡ instruction_at kind a b c }
 {
     match kind {
         1 => Some(Instruction::Set(r(a), n(b))),

@@ -1,9 +1,8 @@
 -- Addresses of live modules are apart, and a step changes the word of the cell that it writes alone.
+use Rattle.std.specs.Prelude.{None, Option, Some, cond, slice_get}
 use Rattle.std.proofs.Common.{◌≡◌, ℕ, ◌+◌, ◌<◌, ◌≤◌, Bool, true, false, eqb, ◌⊎◌, List, [], ◌∷◌, sym, refl, ap, ◌∙◌, subst, inl, inr, ⊎_elim, arith}
-use mathlib.Core.Option.{Option, some, none}
 use Rattle.std.proofs.lemmas.Bool.{cases_eq}
-use Rattle.base.specs.Choices.{pick, opt}
-use Rattle.base.specs.Lists.{nth}
+use Rattle.base.specs.Choices.{opt}
 use Rattle.base.proofs.Lists.{put_other, nth_lt}
 use Rattle.library.specs.Library.{Instruction, Set, Get, Sto, Own, Add, Sub, Mul, Less, Same, Move, Jump, If0, Call, Callr, Ret, Push, Pop, Out, In, Open, Find, Close, End, Library}
 use Rattle.links.specs.Links.{Module, Room}
@@ -39,20 +38,20 @@ module _ (ls : List Library) (k : Layout) (m : Room) (s t : State) (c : Processo
     same : d.cpu.words ≡ c.words
 
   reg_same : (a : ℕ) (f : ℕ → Did) → ((x : ℕ) → SameWords (f x)) → SameWords (Cpu.reg c a f)
-  reg_same a f h = go (nth c.regs a)
+  reg_same a f h = go (slice_get c.regs a)
     where
       go : (o : Option ℕ) → SameWords (opt o (Cpu.did c Cpu.Stuck) f)
-      go none = record { same = refl }
-      go (some x) = h x
+      go None = record { same = refl }
+      go (Some x) = h x
 
   word_same : (a : ℕ) (f : ℕ → Did) → ((x : ℕ) → SameWords (f x)) → SameWords (Cpu.word c a f)
-  word_same a f h = go (nth c.words a)
+  word_same a f h = go (slice_get c.words a)
     where
       go : (o : Option ℕ) → SameWords (opt o (Cpu.did c Cpu.Stuck) f)
-      go none = record { same = refl }
-      go (some x) = h x
+      go None = record { same = refl }
+      go (Some x) = h x
 
-  call_same : (a x : ℕ) (b : Bool) → SameWords (pick b (Cpu.did c (Cpu.Bind a)) (Cpu.calls c x))
+  call_same : (a x : ℕ) (b : Bool) → SameWords (cond b (Cpu.did c (Cpu.Bind a)) (Cpu.calls c x))
   call_same a x true = record { same = refl }
   call_same a x false = record { same = refl }
 
@@ -71,7 +70,7 @@ module _ (ls : List Library) (k : Layout) (m : Room) (s t : State) (c : Processo
   IfStored (lost u) d = Unit
   IfStored (wrong u) d = Unit
 
-  sto_stored : (a n r : ℕ) → state.held_at s s.core.here.host s.core.here.cell ≡ some (code (Sto a n r)) → IfStored (steps.does ls m s (Sto a n r)) (Cpu.does c (fields (Sto a n r) s.core.here.cell))
+  sto_stored : (a n r : ℕ) → state.held_at s s.core.here.host s.core.here.cell ≡ Some (code (Sto a n r)) → IfStored (steps.does ls m s (Sto a n r)) (Cpu.does c (fields (Sto a n r) s.core.here.cell))
   sto_stored a n r e = sto_cases ls k s c rel m (low k ls m s c rel _ e) IfStored (λ d. tt) (λ i j v old x hs fv ei es ej. let h : j < size_of k i = omega (arith, nth_lt hs j (val old) ej, (rel.mem.cells i x hs ei es).sized) in record {
     host = i;
     cell = j;
@@ -84,10 +83,10 @@ module _ (ls : List Library) (k : Layout) (m : Room) (s t : State) (c : Processo
     others = λ a b y ea l d. put_other c.words (base_of k i + j) (base_of k a + b) _ (λ q. others i j x a b y ei ea h l d q);
   }) a n r (at_code k ls m s c rel _ e).2.1
     where
-      others : (i j : ℕ) (x : Module) (a b : ℕ) (y : Module) → live_at s.links.modules i ≡ some x → live_at s.links.modules a ≡ some y → j < size_of k i → b ≤ size_of k a → ((a ≡ i) × (b ≡ j) → ⊥) → base_of k a + b ≡ base_of k i + j → ⊥
+      others : (i j : ℕ) (x : Module) (a b : ℕ) (y : Module) → live_at s.links.modules i ≡ Some x → live_at s.links.modules a ≡ Some y → j < size_of k i → b ≤ size_of k a → ((a ≡ i) × (b ≡ j) → ⊥) → base_of k a + b ≡ base_of k i + j → ⊥
       others i j x a b y ei ea h l d q = ⊎_elim (λ p. d (p, omega (arith, ap (base_of k) p))) (λ p. ⊎_elim (λ u. omega arith) (λ u. omega arith) (rel.mem.ground.apart.apart a i y x ea ei p)) (cases_eq a i)
 
-  by_code : (o : Instruction) → state.held_at s s.core.here.host s.core.here.cell ≡ some (code o) → steps.does ls m s o ≡ goes t → SameWords (Cpu.does c (fields o s.core.here.cell)) ⊎ Stored k s t c (Cpu.does c (fields o s.core.here.cell)).cpu
+  by_code : (o : Instruction) → state.held_at s s.core.here.host s.core.here.cell ≡ Some (code o) → steps.does ls m s o ≡ goes t → SameWords (Cpu.does c (fields o s.core.here.cell)) ⊎ Stored k s t c (Cpu.does c (fields o s.core.here.cell)).cpu
   by_code (Set r n) e q = inl (record { same = refl })
   by_code (Get r a n) e q = inl (reg_same a _ (λ x. word_same _ _ (λ y. record { same = refl })))
   by_code (Sto a n r) e q = inr (subst (λ u. IfStored u (Cpu.does c (fields (Sto a n r) s.core.here.cell))) q (sto_stored a n r e))
@@ -116,11 +115,11 @@ module _ (ls : List Library) (k : Layout) (m : Room) (s t : State) (c : Processo
   wrong_not q = let z : ◌≡◌ {A = ℕ} 0 1 = cc in omega arith
 
   by_cell : (o : Option Held) → state.held_at s s.core.here.host s.core.here.cell ≡ o → steps.here_code o (steps.does ls m s) (wrong s) ≡ goes t → ((Cpu.step c).cpu.words ≡ c.words) ⊎ Stored k s t c (Cpu.step c).cpu
-  by_cell none e q = absurd (wrong_not q)
-  by_cell (some (val v)) e q = absurd (wrong_not q)
-  by_cell (some (link y o)) e q = absurd (wrong_not q)
-  by_cell (some (label x)) e q = absurd (wrong_not q)
-  by_cell (some (code o)) e q = subst (λ d. (d.cpu.words ≡ c.words) ⊎ Stored k s t c d.cpu) (sym (c_step k ls m s c rel o e)) (⊎_elim (λ x. inl x.same) inr (by_code o e q))
+  by_cell None e q = absurd (wrong_not q)
+  by_cell (Some (val v)) e q = absurd (wrong_not q)
+  by_cell (Some (link y o)) e q = absurd (wrong_not q)
+  by_cell (Some (label x)) e q = absurd (wrong_not q)
+  by_cell (Some (code o)) e q = subst (λ d. (d.cpu.words ≡ c.words) ⊎ Stored k s t c d.cpu) (sym (c_step k ls m s c rel o e)) (⊎_elim (λ x. inl x.same) inr (by_code o e q))
 
 pub stores_own : StoresOwn
 stores_own ls k m s t c rel q = by_cell ls k m s t c rel _ refl (sym (m_step k ls m s c rel _ refl) ∙ q)

@@ -1,6 +1,6 @@
 -- What a run answers.
+use Rattle.std.specs.Prelude.{None, Option, Some}
 use Rattle.std.proofs.Common.{◌≡◌, ℕ, true, ◌⊎◌, List, [], ◌∷◌, ◌++◌, sym, refl, inl, inr, ⊎_elim, arith}
-use mathlib.Core.Option.{Option, some, none}
 use Rattle.base.specs.Choices.{on_some}
 use Rattle.library.specs.Library.{Library, any_version, main_name}
 use Rattle.links.specs.Links.{place_at, Room}
@@ -29,13 +29,13 @@ run_answers t words gap ins steps lent ls s st = record {
   fell_lost = λ os x. (ls, s, st, inr x);
 }
 
-main_or_none : (l : Library) (ls : List Library) (m : Room) (ins : List ℕ) → (find_def true l.defs (record { name = main_name; version = any_version }) ≡ none) ⊎ (load (l ∷ ls) m l.name true (runs.blank ins).links ≡ none) → runs.begins (l ∷ ls) m ins ≡ none
+main_or_none : (l : Library) (ls : List Library) (m : Room) (ins : List ℕ) → (find_def true l.defs (record { name = main_name; version = any_version }) ≡ None) ⊎ (load (l ∷ ls) m l.name true (runs.blank ins).links ≡ None) → runs.begins (l ∷ ls) m ins ≡ None
 main_or_none l ls m ins (inl e) = rw e
 main_or_none l ls m ins (inr e) = go (find_def true l.defs (record { name = main_name; version = any_version }))
   where
-    go : (o : Option ℕ) → on_some o (λ k. on_some (load (l ∷ ls) m l.name true (runs.blank ins).links) (λ x. some (runs.started (state.loaded (runs.blank ins) x) (x.calls ++ (place_at 0 k ∷ []))))) ≡ none
-    go none = refl
-    go (some k) = rw e
+    go : (o : Option ℕ) → on_some o (λ k. on_some (load (l ∷ ls) m l.name true (runs.blank ins).links) (λ x. Some (runs.started (state.loaded (runs.blank ins) x) (x.calls ++ (place_at 0 k ∷ []))))) ≡ None
+    go None = refl
+    go (Some k) = rw e
 
 pub run_refuses : RunRefuses
 run_refuses t words gap ins steps lent = record {

@@ -1,7 +1,7 @@
 -- A program that is loaded stands at its first calls.
+use Rattle.std.specs.List.{AllByRecursion}
+use Rattle.std.specs.Prelude.{Some, slice_get}
 use Rattle.std.proofs.Common.{◌≡◌, ℕ, zero, suc, ◌<◌, ◌≤◌, true, List, [], ◌∷◌, ◌++◌, map, length, replicate, sym, refl, ap, subst, arith}
-use mathlib.Core.Option.{some}
-use Rattle.base.specs.Lists.{nth, Each}
 use Rattle.base.proofs.Lists.{each_append}
 use Rattle.library.specs.Library.{Library, any_version, main_name}
 use Rattle.library.specs.Fine.{LibraryFine}
@@ -41,17 +41,17 @@ mem_none ls ws ins h f = record {
   cells = λ i x hs q r. absurd (gone_none i x q);
 }
   where
-    none_some : (i : ℕ) (x : Module) → nth {A = Module} [] i ≡ some x → ⊥
+    none_some : (i : ℕ) (x : Module) → slice_get [] i ≡ Some x → ⊥
     none_some i x q = let z : ◌≡◌ {A = ℕ} 0 1 = cc in omega arith
 
-    gone_none : (i : ℕ) (x : Module) → live_at [] i ≡ some x → ⊥
+    gone_none : (i : ℕ) (x : Module) → live_at [] i ≡ Some x → ⊥
     gone_none i x q = let z : ◌≡◌ {A = ℕ} 0 1 = cc in omega arith
 
 map_same : {A B : Type 0} (f : A → B) (n : ℕ) (x : A) → replicate n (f x) ≡ map f (replicate n x)
 map_same f zero x = refl
 map_same f (suc n) x = ap (λ z. f x ∷ z) (map_same f n x)
 
-each_same : {A : Type 0} (P : A → Type 0) (n : ℕ) (x : A) → P x → Each P (replicate n x)
+each_same : {A : Type 0} (P : A → Type 0) (n : ℕ) (x : A) → P x → AllByRecursion P (replicate n x)
 each_same P zero x p = tt
 each_same P (suc n) x p = (p, each_same P n x p)
 
@@ -89,10 +89,10 @@ begin t ws gap ins l ls m q er few em el = (
     s : State
     s = runs.started (state.loaded (runs.blank ins) q) (q.calls ++ (place_at 0 m ∷ []))
 
-    es : runs.begins (l ∷ ls) (RoomOf (length ws) gap) ins ≡ some s
+    es : runs.begins (l ∷ ls) (RoomOf (length ws) gap) ins ≡ Some s
     es = rw (em, el)
 
-    fine : Each LibraryFine (l ∷ ls)
+    fine : AllByRecursion LibraryFine (l ∷ ls)
     fine = reads_fine t (l ∷ ls) er
 
     lo : Loads (l ∷ ls) (RoomOf (length ws) gap) (runs.blank ins).links q
@@ -104,8 +104,8 @@ begin t ws gap ins l ls m q er few em el = (
     mem' : Mem (l ∷ ls) kq q.links ([] ++ state.new_cells q.links q.new) (laid_all ws q.starts (images (l ∷ ls) kq q.links q.new))
     mem' = mem_loaded (l ∷ ls) fine nothing_loaded.layout (runs.blank ins).links [] ws (mem_none (l ∷ ls) ws ins (omega (arith, lo.fits, lo.taken)) few) (RoomOf (length ws) gap) q lo (omega arith)
 
-    fit_calls : Each (FitsPlace kq) q.calls
-    fit_calls = subst (Each (FitsPlace kq)) (sym lo.calls.1) (calls_fit kq q.links.modules q.links.used _ mem'.ground (λ t. t.inits) (λ t f. f.inits) lo.calls.0)
+    fit_calls : AllByRecursion (FitsPlace kq) q.calls
+    fit_calls = subst (AllByRecursion (FitsPlace kq)) (sym lo.calls.1) (calls_fit kq q.links.modules q.links.used _ mem'.ground (λ t. t.inits) (λ t f. f.inits) lo.calls.0)
 
     main_fits : FitsPlace kq (place_at 0 m)
     main_fits = (

@@ -1,7 +1,6 @@
 -- A slot that is settled at the first call through it.
+use Rattle.std.specs.Prelude.{None, Option, Some, slice_get, slice_set}
 use Rattle.std.proofs.Common.{◌≡◌, ℕ, ◌+◌, ◌<◌, List, length, sym, refl, ap, ◌∙◌, subst, arith}
-use mathlib.Core.Option.{Option, some, none}
-use Rattle.base.specs.Lists.{nth, put}
 use Rattle.base.proofs.Choices.{some_is, opt_some}
 use Rattle.base.proofs.Lists.{nth_lt, put_same, put_other}
 use Rattle.library.specs.Library.{Symbol, Call, slot, Library}
@@ -23,15 +22,15 @@ use Rattle.simulation.proofs.Under.{Under, under_put, mem_under}
 use Rattle.simulation.proofs.Turn.{c_step, m_step, low}
 use Rattle.simulation.proofs.Found.{found_fits}
 
-module _ (k : Layout) (ls : List Library) (m : Room) (s : State) (c : Processor) (rel : Rel ls k s c) (j : ℕ) (y : Symbol) (p : Place) (e : state.held_at s s.core.here.host s.core.here.cell ≡ some (code (Call j))) (q : steps.own s j ≡ some (link y none)) (r : resolve s.links s.core.here.host y ≡ some p) where
+module _ (k : Layout) (ls : List Library) (m : Room) (s : State) (c : Processor) (rel : Rel ls k s c) (j : ℕ) (y : Symbol) (p : Place) (e : state.held_at s s.core.here.host s.core.here.cell ≡ Some (code (Call j))) (q : steps.own s j ≡ Some (link y None)) (r : resolve s.links s.core.here.host y ≡ Some p) where
   abbrev i : ℕ
   i = s.core.here.host
 
   abbrev there : Held
-  there = link y (some (place p.host p.cell))
+  there = link y (Some (place p.host p.cell))
 
-  x : (x : Module) × (hs : List Held) × (live_at s.links.modules i ≡ some x) × (nth s.cells i ≡ some hs) × (nth hs j ≡ some (link y none))
-  x = held_inv s i j (link y none) q
+  x : (x : Module) × (hs : List Held) × (live_at s.links.modules i ≡ Some x) × (slice_get s.cells i ≡ Some hs) × (slice_get hs j ≡ Some (link y None))
+  x = held_inv s i j (link y None) q
 
   -- the state with the slot settled
   abbrev s' : State
@@ -40,22 +39,22 @@ module _ (k : Layout) (ls : List Library) (m : Room) (s : State) (c : Processor)
   abbrev pub c' : Processor
   c' = poked c (base_of k i + j) (addr_place k p)
 
-  module_at : nth s.links.modules i ≡ some x.0
+  module_at : slice_get s.links.modules i ≡ Some x.0
   module_at = (live_inv s.links.modules i x.0 x.2).0
 
   -- the module with the slot settled
   abbrev x' : Module
-  x' = bound_to (put x.0.bound j (some p)) x.0
+  x' = bound_to (slice_set x.0.bound j (Some p)) x.0
 
-  modules_are : s'.links.modules ≡ put s.links.modules i x'
-  modules_are = opt_some (nth s.links.modules i) s.links.modules (λ z. put s.links.modules i (bound_to (put z.bound j (some p)) z)) x.0 module_at
+  modules_are : s'.links.modules ≡ slice_set s.links.modules i x'
+  modules_are = opt_some (slice_get s.links.modules i) s.links.modules (λ z. slice_set s.links.modules i (bound_to (slice_set z.bound j (Some p)) z)) x.0 module_at
 
   under : Under s.links.modules s'.links.modules
   under = subst (Under s.links.modules) (sym modules_are) (under_put s.links.modules i x.0 x' module_at refl (λ h. h))
 
   rel' : Rel ls k s' c'
   rel' = record {
-    mem = mem_under ls k s.links (steps.put_cell s.cells i j there) c'.words s'.links.modules under (mem_put ls k s.links s.cells c.words rel.mem i j (addr_place k p) x.0 x.1 (link y none) there x.2 x.3 x.4 (refl, found_fits k s.links.modules s.links.used (length c.words) rel.mem.ground i y (scope s.links i) p r) slot_is);
+    mem = mem_under ls k s.links (steps.put_cell s.cells i j there) c'.words s'.links.modules under (mem_put ls k s.links s.cells c.words rel.mem i j (addr_place k p) x.0 x.1 (link y None) there x.2 x.3 x.4 (refl, found_fits k s.links.modules s.links.used (length c.words) rel.mem.ground i y (scope s.links i) p r) slot_is);
     regs = rel.regs;
     here = rel.here;
     backs = rel.backs;
@@ -64,32 +63,32 @@ module _ (k : Layout) (ls : List Library) (m : Room) (s : State) (c : Processor)
     outs = rel.outs;
   }
     where
-      slot_is : (z : Symbol) (o : Option Value) → there ≡ link z o → nth x.0.lib.cells j ≡ some (slot z)
-      slot_is z o g = let w : y ≡ z = cc in rw (← w) ((rel.mem.cells i x.0 x.1 x.2 x.3).slots j y none x.4)
+      slot_is : (z : Symbol) (o : Option Value) → there ≡ link z o → slice_get x.0.lib.cells j ≡ Some (slot z)
+      slot_is z o g = let w : y ≡ z = cc in rw (← w) ((rel.mem.cells i x.0 x.1 x.2 x.3).slots j y None x.4)
 
-  held_one : (a : ℕ) (h : Held) → nth (put x.1 j there) a ≡ some h → state.held_at s' i a ≡ some h
+  held_one : (a : ℕ) (h : Held) → slice_get (slice_set x.1 j there) a ≡ Some h → state.held_at s' i a ≡ Some h
   held_one a h g = rw (live', cells') g
     where
-      live' : live_at s'.links.modules i ≡ some x'
-      live' = ap (λ ms. live_at ms i) modules_are ∙ live_from (put s.links.modules i x') i x' (put_same s.links.modules i x' (nth_lt s.links.modules i x.0 module_at)) (live_inv s.links.modules i x.0 x.2).1
+      live' : live_at s'.links.modules i ≡ Some x'
+      live' = ap (λ ms. live_at ms i) modules_are ∙ live_from (slice_set s.links.modules i x') i x' (put_same s.links.modules i x' (nth_lt s.links.modules i x.0 module_at)) (live_inv s.links.modules i x.0 x.2).1
 
-      cells' : nth s'.cells i ≡ some (put x.1 j there)
-      cells' = ap (λ cs. nth cs i) (opt_some (nth s.cells i) s.cells (λ hs. put s.cells i (put hs j there)) x.1 x.3) ∙ put_same s.cells i (put x.1 j there) (nth_lt s.cells i x.1 x.3)
+      cells' : slice_get s'.cells i ≡ Some (slice_set x.1 j there)
+      cells' = ap (λ cs. slice_get cs i) (opt_some (slice_get s.cells i) s.cells (λ hs. slice_set s.cells i (slice_set hs j there)) x.1 x.3) ∙ put_same s.cells i (slice_set x.1 j there) (nth_lt s.cells i x.1 x.3)
 
-  still : state.held_at s' s'.core.here.host s'.core.here.cell ≡ some (code (Call j))
+  still : state.held_at s' s'.core.here.host s'.core.here.cell ≡ Some (code (Call j))
   still = held_one s.core.here.cell (code (Call j)) (put_other x.1 j s.core.here.cell there other ∙ old)
     where
-      old : nth x.1 s.core.here.cell ≡ some (code (Call j))
-      old = let w = held_inv s i s.core.here.cell (code (Call j)) e in let z : w.1 ≡ x.1 = some_is (sym w.3 ∙ x.3) in ap (λ hs. nth hs s.core.here.cell) (sym z) ∙ w.4
+      old : slice_get x.1 s.core.here.cell ≡ Some (code (Call j))
+      old = let w = held_inv s i s.core.here.cell (code (Call j)) e in let z : w.1 ≡ x.1 = some_is (sym w.3 ∙ x.3) in ap (λ hs. slice_get hs s.core.here.cell) (sym z) ∙ w.4
 
       other : s.core.here.cell ≡ j → ⊥
-      other g = let w : some (code (Call j)) ≡ some (link y none) = sym old ∙ ap (nth x.1) g ∙ x.4 in let z : ◌≡◌ {A = ℕ} 0 1 = cc in omega arith
+      other g = let w : Some (code (Call j)) ≡ Some (link y None) = sym old ∙ ap (slice_get x.1) g ∙ x.4 in let z : ◌≡◌ {A = ℕ} 0 1 = cc in omega arith
 
-  settled : steps.own s' j ≡ some there
-  settled = held_one j there (put_same x.1 j there (nth_lt x.1 j (link y none) x.4))
+  settled : steps.own s' j ≡ Some there
+  settled = held_one j there (put_same x.1 j there (nth_lt x.1 j (link y None) x.4))
 
   slot_in : j < size_of k i
-  slot_in = omega (arith, nth_lt x.1 j (link y none) x.4, (rel.mem.cells i x.0 x.1 x.2 x.3).sized)
+  slot_in = omega (arith, nth_lt x.1 j (link y None) x.4, (rel.mem.cells i x.0 x.1 x.2 x.3).sized)
 
   pub bind_step : steps.step ls m s ≡ steps.pushes s' p
   bind_step = m_step k ls m s c rel _ e ∙ ap (steps.calls_through s j) q ∙ opt_some _ (lost s) (steps.binds_to s j y) p r

@@ -1,9 +1,9 @@
 -- Modules that come behind the others, in order.
+use Rattle.std.specs.List.{AllByRecursion}
+use Rattle.std.specs.Prelude.{Some}
 use Rattle.std.proofs.Common.{◌≡◌, ℕ, suc, ◌+◌, ◌<◌, ◌≤◌, ◌⊎◌, List, [], ◌∷◌, ◌++◌, map, length, sym, refl, ap, ◌∙◌, subst, inl, inr, ⊎_elim, append_assoc, append-nil, arith}
-use mathlib.Core.Option.{some}
 use Rattle.std.proofs.lemmas.Bool.{cases_lt}
 use Rattle.std.proofs.lemmas.List.{get_or_append_left, get_or_push, length_push, length-append}
-use Rattle.base.specs.Lists.{Each}
 use Rattle.base.proofs.Lists.{nth_lt, nth_push}
 use Rattle.library.specs.Fine.{LibraryFine}
 use Rattle.links.specs.Links.{Module, cells_in}
@@ -47,7 +47,7 @@ module _ (k : Layout) (ms : List Module) (u total b : ℕ) (y : Module) (g : Gro
   }
 
   -- a live module is an old one or the new one
-  old_or_new : (i : ℕ) (x : Module) → live_at (ms ++ (y ∷ [])) i ≡ some x → ((live_at ms i ≡ some x) × (i < length k.bases)) ⊎ (i ≡ length k.bases)
+  old_or_new : (i : ℕ) (x : Module) → live_at (ms ++ (y ∷ [])) i ≡ Some x → ((live_at ms i ≡ Some x) × (i < length k.bases)) ⊎ (i ≡ length k.bases)
   old_or_new i x e = let p = live_inv (ms ++ (y ∷ [])) i x e in ⊎_elim (λ q. inl (live_from ms i x q p.1, omega (arith, nth_lt ms i x q, g.count))) (λ q. inr (q.0 ∙ g.count)) (nth_push ms y i x p.0)
 
   ground_more : Ground (more k b (cells_in y)) (ms ++ (y ∷ [])) (suc (b + cells_in y)) total
@@ -61,13 +61,13 @@ module _ (k : Layout) (ms : List Module) (u total b : ℕ) (y : Module) (g : Gro
     fine = λ i x e. ⊎_elim (λ q. g.fine i x q) (λ q. subst (λ (z : Module). LibraryFine z.lib) q.1 fine) (nth_push ms y i x e);
   }
     where
-      below : (i : ℕ) (x : Module) → live_at (ms ++ (y ∷ [])) i ≡ some x → base_of (more k b (cells_in y)) i + size_of (more k b (cells_in y)) i < suc (b + cells_in y)
+      below : (i : ℕ) (x : Module) → live_at (ms ++ (y ∷ [])) i ≡ Some x → base_of (more k b (cells_in y)) i + size_of (more k b (cells_in y)) i < suc (b + cells_in y)
       below i x e = ⊎_elim (λ q. omega (arith, base_old i q.1, size_old i q.1, g.apart.below i x q.0, h₁)) (λ q. rw q (omega (arith, base_new, size_new))) (old_or_new i x e)
 
-      apart' : (i j : ℕ) (x z : Module) → live_at (ms ++ (y ∷ [])) i ≡ some x → live_at (ms ++ (y ∷ [])) j ≡ some z → (i ≡ j → ⊥) → (base_of (more k b (cells_in y)) i + size_of (more k b (cells_in y)) i < base_of (more k b (cells_in y)) j) ⊎ (base_of (more k b (cells_in y)) j + size_of (more k b (cells_in y)) j < base_of (more k b (cells_in y)) i)
+      apart' : (i j : ℕ) (x z : Module) → live_at (ms ++ (y ∷ [])) i ≡ Some x → live_at (ms ++ (y ∷ [])) j ≡ Some z → (i ≡ j → ⊥) → (base_of (more k b (cells_in y)) i + size_of (more k b (cells_in y)) i < base_of (more k b (cells_in y)) j) ⊎ (base_of (more k b (cells_in y)) j + size_of (more k b (cells_in y)) j < base_of (more k b (cells_in y)) i)
       apart' i j x z e f d = ⊎_elim (λ p. ⊎_elim (λ q. both p q) (λ q. inl (rw q (omega (arith, base_new, base_old i p.1, size_old i p.1, g.apart.below i x p.0, h₁)))) (old_or_new j z f)) (λ p. ⊎_elim (λ q. inr (rw p (omega (arith, base_new, base_old j q.1, size_old j q.1, g.apart.below j z q.0, h₁)))) (λ q. absurd (d (p ∙ sym q))) (old_or_new j z f)) (old_or_new i x e)
         where
-          both : (live_at ms i ≡ some x) × (i < length k.bases) → (live_at ms j ≡ some z) × (j < length k.bases) → (base_of (more k b (cells_in y)) i + size_of (more k b (cells_in y)) i < base_of (more k b (cells_in y)) j) ⊎ (base_of (more k b (cells_in y)) j + size_of (more k b (cells_in y)) j < base_of (more k b (cells_in y)) i)
+          both : (live_at ms i ≡ Some x) × (i < length k.bases) → (live_at ms j ≡ Some z) × (j < length k.bases) → (base_of (more k b (cells_in y)) i + size_of (more k b (cells_in y)) i < base_of (more k b (cells_in y)) j) ⊎ (base_of (more k b (cells_in y)) j + size_of (more k b (cells_in y)) j < base_of (more k b (cells_in y)) i)
           both p q = ⊎_elim (λ l. inl (omega (arith, base_old i p.1, size_old i p.1, base_old j q.1))) (λ l. inr (omega (arith, base_old j q.1, size_old j q.1, base_old i p.1))) (g.apart.apart i j x z p.0 q.0 d)
 
 ground_taken : (k : Layout) (ms : List Module) (u e total : ℕ) → Ground k ms u total → u ≤ e → e ≤ total → Ground k ms e total
@@ -84,7 +84,7 @@ ground_taken k ms u e total g h l = record {
 abbrev pub grown : Layout → List ℕ → List Module → Layout
 grown k bs fresh = record { bases = k.bases ++ bs; sizes = k.sizes ++ map cells_in fresh }
 
-pub ground_all : (total : ℕ) (fresh : List Module) (bs : List ℕ) (k : Layout) (ms : List Module) (u e : ℕ) → Ground k ms u total → Rising u bs (map cells_in fresh) e → e ≤ total → Each (λ y. LibraryFine y.lib) fresh → Ground (grown k bs fresh) (ms ++ fresh) e total
+pub ground_all : (total : ℕ) (fresh : List Module) (bs : List ℕ) (k : Layout) (ms : List Module) (u e : ℕ) → Ground k ms u total → Rising u bs (map cells_in fresh) e → e ≤ total → AllByRecursion (λ y. LibraryFine y.lib) fresh → Ground (grown k bs fresh) (ms ++ fresh) e total
 ground_all total [] [] k ms u e g r h f = rw (append-nil k.bases, append-nil k.sizes, append-nil ms) (ground_taken k ms u e total g r h)
 ground_all total [] (b ∷ bs) k ms u e g r h f = absurd r
 ground_all total (y ∷ fresh) [] k ms u e g r h f = absurd r

@@ -1,9 +1,10 @@
 -- What a step of the processor tells, and what the loader may rely on then.
+use Rattle.std.specs.List.{AllByRecursion}
+use Rattle.std.specs.Option.{option_map}
+use Rattle.std.specs.Prelude.{None, Option, Some, slice_get, slice_set}
 use Rattle.std.proofs.Common.{◌≡◌, ℕ, suc, ◌+◌, ◌<◌, ◌≤◌, Bool, true, false, not, ◌&&◌, eqb, ◌⊎◌, List, [], ◌∷◌, ◌++◌, length, sym, refl, ap, ◌∙◌, subst, inl, inr, ⊎_elim, arith}
-use mathlib.Core.Option.{Option, some, none}
 use Rattle.std.proofs.lemmas.Bool.{eq-eqb, cases_eq}
-use Rattle.base.specs.Choices.{opt, guard, over}
-use Rattle.base.specs.Lists.{nth, put, Each}
+use Rattle.base.specs.Choices.{opt, guard}
 use Rattle.base.specs.Names.{Name}
 use Rattle.base.proofs.Choices.{pick_true, pick_false, opt_none, opt_some}
 use Rattle.base.proofs.Lists.{length-put, nth_lt, each_nth}
@@ -75,14 +76,14 @@ closing_same k (pending ps (stops n) ∷ fs) = closing_same k fs
 mem_groups : (ls : List Library) (k : Layout) (ks : Links) (css : List (List Held)) (ws : List ℕ) (gs : List Group) → length gs ≡ length ks.groups → Mem ls k ks css ws → Mem ls k (record { modules = ks.modules; groups = gs; order = ks.order; used = ks.used }) css ws
 mem_groups ls k ks css ws gs e m = record { ground = m.ground; held = m.held; numbered = omega (arith, m.numbered); cells = m.cells }
 
-closed_length : (gs : List Group) (h : ℕ) → length (opt (nth gs h) gs (λ g. put gs h (closed_group g))) ≡ length gs
-closed_length gs h = go (nth gs h)
+closed_length : (gs : List Group) (h : ℕ) → length (opt (slice_get gs h) gs (λ g. slice_set gs h (closed_group g))) ≡ length gs
+closed_length gs h = go (slice_get gs h)
   where
-    go : (o : Option Group) → length (opt o gs (λ g. put gs h (closed_group g))) ≡ length gs
-    go none = refl
-    go (some g) = length-put gs h (closed_group g)
+    go : (o : Option Group) → length (opt o gs (λ g. slice_set gs h (closed_group g))) ≡ length gs
+    go None = refl
+    go (Some g) = length-put gs h (closed_group g)
 
-module _ (w : World) (k : Layout) (i n : ℕ) (z : State) (c : Processor) (fine : Each LibraryFine w.libs) (room : w.memory.words ≡ length c.words) (made : i ≤ n + n) (e : at w n ≡ goes z) (rel : Rel w.libs k z c) where
+module _ (w : World) (k : Layout) (i n : ℕ) (z : State) (c : Processor) (fine : AllByRecursion LibraryFine w.libs) (room : w.memory.words ≡ length c.words) (made : i ≤ n + n) (e : at w n ≡ goes z) (rel : Rel w.libs k z c) where
   abbrev l : Loader
   l = of_state k z
 
@@ -94,13 +95,13 @@ module _ (w : World) (k : Layout) (i n : ℕ) (z : State) (c : Processor) (fine 
   nowhere_fell q = (suc n, z, q, subst (λ x. Front z.outs x) (sym rel.outs) (front_self z.outs))
 
   -- a register that must be a number
-  num_or_fell : (r : ℕ) (f : ℕ → Next) → steps.step w.libs w.memory z ≡ values.on_num z (values.reg z r) f → Fell (at w) c.outs ⊎ ((v : ℕ) × (nth c.regs r ≡ some v) × (v < Cpu.all) × (at w (suc n) ≡ f v))
-  num_or_fell r f s = go (nth z.core.regs r) refl
+  num_or_fell : (r : ℕ) (f : ℕ → Next) → steps.step w.libs w.memory z ≡ values.on_num z (values.reg z r) f → Fell (at w) c.outs ⊎ ((v : ℕ) × (slice_get c.regs r ≡ Some v) × (v < Cpu.all) × (at w (suc n) ≡ f v))
+  num_or_fell r f s = go (slice_get z.core.regs r) refl
     where
-      go : (o : Option Value) → nth z.core.regs r ≡ o → Fell (at w) c.outs ⊎ ((v : ℕ) × (nth c.regs r ≡ some v) × (v < Cpu.all) × (at w (suc n) ≡ f v))
-      go none q = inl (nowhere_fell (next_is w n z e ∙ s ∙ ap (λ o. values.on_num z o f) q))
-      go (some (num v)) q = inr (v, reg_is w.libs k z c rel r ∙ ap (over (addr k)) q, each_nth (Fits k) z.core.regs r (num v) rel.regs.fit q, next_is w n z e ∙ s ∙ ap (λ o. values.on_num z o f) q)
-      go (some (place a b)) q = inl (nowhere_fell (next_is w n z e ∙ s ∙ ap (λ o. values.on_num z o f) q))
+      go : (o : Option Value) → slice_get z.core.regs r ≡ o → Fell (at w) c.outs ⊎ ((v : ℕ) × (slice_get c.regs r ≡ Some v) × (v < Cpu.all) × (at w (suc n) ≡ f v))
+      go None q = inl (nowhere_fell (next_is w n z e ∙ s ∙ ap (λ o. values.on_num z o f) q))
+      go (Some (num v)) q = inr (v, reg_is w.libs k z c rel r ∙ ap (option_map (addr k)) q, each_nth (Fits k) z.core.regs r (num v) rel.regs.fit q, next_is w n z e ∙ s ∙ ap (λ o. values.on_num z o f) q)
+      go (Some (place a b)) q = inl (nowhere_fell (next_is w n z e ∙ s ∙ ap (λ o. values.on_num z o f) q))
 
   module _ (here_in : z.core.here.cell < size_of k z.core.here.host) where
     back_at : At k (values.behind z.core.here) (suc c.pc)
@@ -171,7 +172,7 @@ module _ (w : World) (k : Layout) (i n : ℕ) (z : State) (c : Processor) (fine 
             mem' : Mem w.libs k (close_group z.links h) z.cells c.words
             mem' = mem_groups w.libs k z.links z.cells c.words _ (closed_length z.links.groups h) rel.mem
 
-    find_heard : (r a j v : ℕ) (x : Name) → r < 8 → a < 8 → steps.own z j ≡ some (label x) → label_at w.libs v ≡ some x → steps.step w.libs w.memory z ≡ steps.does w.libs w.memory z (Find r a j) → Fell (at w) c.outs ⊎ Finding w l (suc i) c' r a v
+    find_heard : (r a j v : ℕ) (x : Name) → r < 8 → a < 8 → steps.own z j ≡ Some (label x) → label_at w.libs v ≡ Some x → steps.step w.libs w.memory z ≡ steps.does w.libs w.memory z (Find r a j) → Fell (at w) c.outs ⊎ Finding w l (suc i) c' r a v
     find_heard r a j v x hr ha ow lb s = ⊎_elim inl (λ t. inr (record {
       x = x;
       label = lb;
@@ -192,13 +193,13 @@ module _ (w : World) (k : Layout) (i n : ℕ) (z : State) (c : Processor) (fine 
             }) (members_of z.links.groups h) (omega arith)
             go false = omega arith
 
-    open_heard : (r j v : ℕ) (b : Bool) (x : Name) → r < 8 → steps.own z j ≡ some (label x) → label_at w.libs v ≡ some x → steps.step w.libs w.memory z ≡ steps.does w.libs w.memory z (Open r j b) → Opening w l (suc i) c' v r b
+    open_heard : (r j v : ℕ) (b : Bool) (x : Name) → r < 8 → steps.own z j ≡ Some (label x) → label_at w.libs v ≡ Some x → steps.step w.libs w.memory z ≡ steps.does w.libs w.memory z (Open r j b) → Opening w l (suc i) c' v r b
     open_heard r j v b x hr ow lb s = record { x = x; label = lb; small = hr; refused = λ q. gave r (num 0) (omega arith) (opens ∙ opt_none _ _ _ q); opened = opened }
       where
         opens : at w (suc n) ≡ steps.opens w.libs w.memory z r b x
         opens = next_is w n z e ∙ s ∙ ap (λ o. steps.on_label z o (steps.opens w.libs w.memory z r b)) ow
 
-        opened : (q : Loaded) → load w.libs w.memory x b z.links ≡ some q → Opened w l (suc i) c' q q.calls (resume r (length z.links.groups) c'.pc)
+        opened : (q : Loaded) → load w.libs w.memory x b z.links ≡ Some q → Opened w l (suc i) c' q q.calls (resume r (length z.links.groups) c'.pc)
         opened q lq = (
           kq,
           refl,
@@ -246,18 +247,18 @@ module _ (w : World) (k : Layout) (i n : ℕ) (z : State) (c : Processor) (fine 
             small : length z.links.groups < Cpu.all
             small = omega (arith, rel.mem.numbered, rel.mem.ground.room, rel.mem.ground.placed.few)
 
-            fit_calls : Each (FitsPlace kq) q.calls
-            fit_calls = subst (Each (FitsPlace kq)) (sym lo.calls.1) (calls_fit kq q.links.modules q.links.used _ mem'.ground (λ t. t.inits) (λ t f. f.inits) lo.calls.0)
+            fit_calls : AllByRecursion (FitsPlace kq) q.calls
+            fit_calls = subst (AllByRecursion (FitsPlace kq)) (sym lo.calls.1) (calls_fit kq q.links.modules q.links.used _ mem'.ground (λ t. t.inits) (λ t f. f.inits) lo.calls.0)
 
   -- a slot that is called for the first time
-  bind_heard : (j : ℕ) (y : Symbol) → steps.own z z.core.here.cell ≡ some (code (Call j)) → steps.own z j ≡ some (link y none) → steps.step w.libs w.memory z ≡ steps.does w.libs w.memory z (Call j) → Binding w l (suc i) c (base_of k z.core.here.host + j)
+  bind_heard : (j : ℕ) (y : Symbol) → steps.own z z.core.here.cell ≡ Some (code (Call j)) → steps.own z j ≡ Some (link y None) → steps.step w.libs w.memory z ≡ steps.does w.libs w.memory z (Call j) → Binding w l (suc i) c (base_of k z.core.here.host + j)
   bind_heard j y at_call ow s = record {
     me = me;
     x = x.0;
     j = j;
     y = y;
     live = x.2;
-    at_slot = kept.slots j y none x.4;
+    at_slot = kept.slots j y None x.4;
     address = refl;
     inside = inside;
     within = omega (arith, inside, rel.mem.ground.placed.last me (there w.libs k z.links z.cells c.words rel.mem me x.0 x.2));
@@ -270,19 +271,19 @@ module _ (w : World) (k : Layout) (i n : ℕ) (z : State) (c : Processor) (fine 
       me : ℕ
       me = z.core.here.host
 
-      x : (x : Module) × (hs : List Held) × (live_at z.links.modules me ≡ some x) × (nth z.cells me ≡ some hs) × (nth hs j ≡ some (link y none))
-      x = held_inv z me j (link y none) ow
+      x : (x : Module) × (hs : List Held) × (live_at z.links.modules me ≡ Some x) × (slice_get z.cells me ≡ Some hs) × (slice_get hs j ≡ Some (link y None))
+      x = held_inv z me j (link y None) ow
 
       kept : Kept w.libs k c.words me x.0 x.1
       kept = rel.mem.cells me x.0 x.1 x.2 x.3
 
       inside : j < size_of k me
-      inside = omega (arith, nth_lt x.1 j (link y none) x.4, kept.sized)
+      inside = omega (arith, nth_lt x.1 j (link y None) x.4, kept.sized)
 
-      alone : (i' : ℕ) (x' : Module) (j' : ℕ) → live_at z.links.modules i' ≡ some x' → base_of k me + j ≡ base_of k i' + j' → j' < size_of k i' → (i' ≡ me) × (j' ≡ j)
+      alone : (i' : ℕ) (x' : Module) (j' : ℕ) → live_at z.links.modules i' ≡ Some x' → base_of k me + j ≡ base_of k i' + j' → j' < size_of k i' → (i' ≡ me) × (j' ≡ j)
       alone i' x' j' v q h = ⊎_elim (λ t. (t, omega (arith, ap (base_of k) t))) (λ t. absurd (no_two w.libs k z.links z.cells c.words rel.mem me j i' j' x.0 x' x.2 v inside h t (sym q))) (cases_eq i' me)
 
-      settled : (p : Place) → resolve z.links me y ≡ some p → Stands w (with_links l (slot_bound z.links me j p)) (suc i) (poked c (base_of k me + j) (addr_place k p))
+      settled : (p : Place) → resolve z.links me y ≡ Some p → Stands w (with_links l (slot_bound z.links me j p)) (suc i) (poked c (base_of k me + j) (addr_place k p))
       settled p q = let g = bind_good k w.libs w.memory z c rel j y p at_call ow q in calling n z _ (omega arith) e (next_is w n z e ∙ bind_step k w.libs w.memory z c rel j y p at_call ow q) (record {
         links = g.2;
         rows = g.3;
@@ -296,7 +297,7 @@ module _ (w : World) (k : Layout) (i n : ℕ) (z : State) (c : Processor) (fine 
       told : (d : Did) → Cpu.step c ≡ d → Hears w l (suc i) d.cpu d.event → Hears w l (suc i) (Cpu.step c).cpu (Cpu.step c).event
       told d q h = subst (λ d. Hears w l (suc i) d.cpu d.event) (sym q) h
 
-      by_op : (o : Instruction) → steps.own z z.core.here.cell ≡ some (code o) → steps.step w.libs w.memory z ≡ steps.does w.libs w.memory z o → Fine o → Asks w.libs k z c o (Cpu.step c) → Hears w l (suc i) (Cpu.step c).cpu (Cpu.step c).event
+      by_op : (o : Instruction) → steps.own z z.core.here.cell ≡ Some (code o) → steps.step w.libs w.memory z ≡ steps.does w.libs w.memory z o → Fine o → Asks w.libs k z c o (Cpu.step c) → Hears w l (suc i) (Cpu.step c).cpu (Cpu.step c).event
       by_op (Set r m) at_o s f a = absurd a
       by_op (Get r b m) at_o s f a = absurd a
       by_op (Sto r m b) at_o s f a = absurd a

@@ -1,9 +1,10 @@
 -- Instructions that the processor does by itself.
+use Rattle.std.specs.List.{AllByRecursion}
+use Rattle.std.specs.Option.{option_map}
+use Rattle.std.specs.Prelude.{None, Option, Some, cond, slice_get, slice_set}
 use Rattle.std.proofs.Common.{◌≡◌, ℕ, suc, ◌+◌, ◌%◌, ◌<◌, Bool, true, false, eqb, List, [], ◌∷◌, ◌++◌, map, length, drop, sym, refl, ap, ◌∙◌, subst, subst₂, arith}
-use mathlib.Core.Option.{Option, some, none}
 use Rattle.std.proofs.lemmas.Bool.{ne_eqb}
-use Rattle.base.specs.Choices.{pick, opt, over}
-use Rattle.base.specs.Lists.{nth, put, Each}
+use Rattle.base.specs.Choices.{opt}
 use Rattle.base.proofs.Choices.{on_some_inv}
 use Rattle.base.proofs.Lists.{nth-map, map-put, each_nth, each_put}
 use Rattle.library.specs.Library.{Set, Get, Own, Move, Jump, If0, Callr, Ret, Push, Pop, Out, In, Library}
@@ -39,12 +40,12 @@ addr_word : (k : Layout) (t : ℕ) (v : Value) → Placed k t → Fits k v → a
 addr_word k t v l f = omega (arith, addr_small k t v l f)
 
 -- a value that is put among others
-pub values_put : (k : Layout) (vs : List Value) (ns : List ℕ) (r : ℕ) (v : Value) → Values k vs ns → Fits k v → Values k (put vs r v) (put ns r (addr k v))
+pub values_put : (k : Layout) (vs : List Value) (ns : List ℕ) (r : ℕ) (v : Value) → Values k vs ns → Fits k v → Values k (slice_set vs r v) (slice_set ns r (addr k v))
 values_put k vs ns r v x f = record { are = rw (x.are, map-put) refl; fit = each_put (Fits k) vs r v x.fit f }
 
 -- a cell that holds something, taken apart
-pub held_inv : (s : State) (i j : ℕ) (h : Held) → state.held_at s i j ≡ some h → (x : Module) × (hs : List Held) × (live_at s.links.modules i ≡ some x) × (nth s.cells i ≡ some hs) × (nth hs j ≡ some h)
-held_inv s i j h e = let p = on_some_inv (live_at s.links.modules i) _ h e in let q = on_some_inv (nth s.cells i) _ h p.2 in (p.0, q.0, p.1, q.1, q.2)
+pub held_inv : (s : State) (i j : ℕ) (h : Held) → state.held_at s i j ≡ Some h → (x : Module) × (hs : List Held) × (live_at s.links.modules i ≡ Some x) × (slice_get s.cells i ≡ Some hs) × (slice_get hs j ≡ Some h)
+held_inv s i j h e = let p = on_some_inv (live_at s.links.modules i) _ h e in let q = on_some_inv (slice_get s.cells i) _ h p.2 in (p.0, q.0, p.1, q.1, q.2)
 
 module _ (ls : List Library) (k : Layout) (s : State) (c : Processor) (rel : Rel ls k s c) where
   -- on to the next cell
@@ -72,27 +73,27 @@ module _ (ls : List Library) (k : Layout) (s : State) (c : Processor) (rel : Rel
   )
 
   -- what a register holds, as a word
-  pub reg_is : (a : ℕ) → nth c.regs a ≡ over (addr k) (nth s.core.regs a)
-  reg_is a = ap (λ rs. nth rs a) rel.regs.are ∙ nth-map (addr k) s.core.regs a
+  pub reg_is : (a : ℕ) → slice_get c.regs a ≡ option_map (addr k) (slice_get s.core.regs a)
+  reg_is a = ap (λ rs. slice_get rs a) rel.regs.are ∙ nth-map (addr k) s.core.regs a
 
   -- a register that is read
   pub on_reg_any : (P : Next → Did → Type 0) (a : ℕ) (f : Value → Next) (g : ℕ → Did) → P (wrong s) (Cpu.did c Cpu.Stuck) → ((v : Value) → Fits k v → P (f v) (g (addr k v))) → P (values.on_val s (values.reg s a) f) (Cpu.reg c a g)
-  on_reg_any P a f g fell h = rw (reg_is a) (go (nth s.core.regs a) refl)
+  on_reg_any P a f g fell h = rw (reg_is a) (go (slice_get s.core.regs a) refl)
     where
-      go : (o : Option Value) → nth s.core.regs a ≡ o → P (values.on_val s o f) (opt (over (addr k) o) (Cpu.did c Cpu.Stuck) g)
-      go none e = fell
-      go (some v) e = h v (each_nth (Fits k) s.core.regs a v rel.regs.fit e)
+      go : (o : Option Value) → slice_get s.core.regs a ≡ o → P (values.on_val s o f) (opt (option_map (addr k) o) (Cpu.did c Cpu.Stuck) g)
+      go None e = fell
+      go (Some v) e = h v (each_nth (Fits k) s.core.regs a v rel.regs.fit e)
 
   pub on_reg : (a : ℕ) (f : Value → Next) (g : ℕ → Did) → ((v : Value) → Fits k v → Good ls k s c.outs (f v) (g (addr k v))) → Good ls k s c.outs (values.on_val s (values.reg s a) f) (Cpu.reg c a g)
   on_reg a f g h = on_reg_any (Good ls k s c.outs) a f g (sym rel.outs) h
 
   on_number : (a : ℕ) (f : ℕ → Next) (g : ℕ → Did) → ((n : ℕ) → n < Cpu.all → Good ls k s c.outs (f n) (g n)) → Good ls k s c.outs (values.on_num s (values.reg s a) f) (Cpu.reg c a g)
-  on_number a f g h = rw (reg_is a) (go (nth s.core.regs a) refl)
+  on_number a f g h = rw (reg_is a) (go (slice_get s.core.regs a) refl)
     where
-      go : (o : Option Value) → nth s.core.regs a ≡ o → Good ls k s c.outs (values.on_num s o f) (opt (over (addr k) o) (Cpu.did c Cpu.Stuck) g)
-      go none e = (sym rel.outs)
-      go (some (num n)) e = h n (each_nth (Fits k) s.core.regs a (num n) rel.regs.fit e)
-      go (some (place i j)) e = (sym rel.outs)
+      go : (o : Option Value) → slice_get s.core.regs a ≡ o → Good ls k s c.outs (values.on_num s o f) (opt (option_map (addr k) o) (Cpu.did c Cpu.Stuck) g)
+      go None e = (sym rel.outs)
+      go (Some (num n)) e = h n (each_nth (Fits k) s.core.regs a (num n) rel.regs.fit e)
+      go (Some (place i j)) e = (sym rel.outs)
 
   module _ (m : Room) (low : s.core.here.cell < size_of k s.core.here.host) where
     pub set_good : (r n : ℕ) → Fine (Set r n) → Good ls k s c.outs (steps.does ls m s (Set r n)) (Cpu.does c (fields (Set r n) s.core.here.cell))
@@ -136,7 +137,7 @@ module _ (ls : List Library) (k : Layout) (s : State) (c : Processor) (rel : Rel
     pub pop_good : (r : ℕ) → Fine (Pop r) → Good ls k s c.outs (steps.does ls m s (Pop r)) (Cpu.does c (fields (Pop r) s.core.here.cell))
     pop_good r h = subst (λ xs. Good ls k s c.outs (steps.pops s r s.core.pushed) (Cpu.pops c r xs)) (sym rel.pushed.are) (go s.core.pushed rel.pushed.fit)
       where
-        go : (vs : List Value) → Each (Fits k) vs → Good ls k s c.outs (steps.pops s r vs) (Cpu.pops c r (map (addr k) vs))
+        go : (vs : List Value) → AllByRecursion (Fits k) vs → Good ls k s c.outs (steps.pops s r vs) (Cpu.pops c r (map (addr k) vs))
         go [] f = (sym rel.outs)
         go (v ∷ vs) f = (
           refl,
@@ -195,7 +196,7 @@ module _ (ls : List Library) (k : Layout) (s : State) (c : Processor) (rel : Rel
     pub if0_good : (r j : ℕ) → j < size_of k s.core.here.host → Good ls k s c.outs (steps.does ls m s (If0 r j)) (Cpu.does c (fields (If0 r j) s.core.here.cell))
     if0_good r j h = on_reg r _ _ (elim [ num n ↦ λ f. num_go n (eqb n 0) | place i l ↦ λ f. rw (ne_eqb (base_of k i + l) 0 (λ e. omega (arith, rel.mem.ground.placed.first i f.0))) (at_good _ _ (next_at low)) ])
       where
-        num_go : (n : ℕ) (b : Bool) → Good ls k s c.outs (pick b (steps.to_cell s j) (goes (values.next s))) (Cpu.goes c (pick b (Cpu.there c (apart j s.core.here.cell)) (suc c.pc)))
+        num_go : (n : ℕ) (b : Bool) → Good ls k s c.outs (cond b (steps.to_cell s j) (goes (values.next s))) (Cpu.goes c (cond b (Cpu.there c (apart j s.core.here.cell)) (suc c.pc)))
         num_go n true = at_good _ _ (own_at j h)
         num_go n false = at_good _ _ (next_at low)
 
@@ -235,19 +236,19 @@ module _ (ls : List Library) (k : Layout) (s : State) (c : Processor) (rel : Rel
       sym (ap (pendings k) e),
     )
       where
-        ff : Each (FitsFrame k) (back p ∷ fs)
+        ff : AllByRecursion (FitsFrame k) (back p ∷ fs)
         ff = rw e at rel.backs.fit
 
     -- a cell that is read
     pub get_good : (r a n : ℕ) → Fine (Get r a n) → Good ls k s c.outs (steps.does ls m s (Get r a n)) (Cpu.does c (fields (Get r a n) s.core.here.cell))
     get_good r a n h = on_reg a _ _ (elim [ num l ↦ λ f. (sym rel.outs) | place i l ↦ λ f. go i l f (state.held_at s i (l + n)) refl ])
       where
-        found : (i l w : ℕ) (v : Value) → Fits k (place i l) → nth c.words (base_of k i + (l + n)) ≡ some w → w ≡ addr k v → Fits k v → Good ls k s c.outs (values.sets s r v) (Cpu.word c ((base_of k i + l + n) % Cpu.all) (Cpu.sets c r))
+        found : (i l w : ℕ) (v : Value) → Fits k (place i l) → slice_get c.words (base_of k i + (l + n)) ≡ Some w → w ≡ addr k v → Fits k v → Good ls k s c.outs (values.sets s r v) (Cpu.word c ((base_of k i + l + n) % Cpu.all) (Cpu.sets c r))
         found i l w v f e q fv = let p : (base_of k i + l + n) % Cpu.all ≡ base_of k i + (l + n) = omega (arith, rel.mem.ground.placed.last i f.0, rel.mem.ground.placed.few, h.2) in rw (p, e) (sets_good r w v low fv (rw q (addr_word k (length c.words) v rel.mem.ground.placed fv)))
 
         go : (i l : ℕ) → Fits k (place i l) → (o : Option Held) → state.held_at s i (l + n) ≡ o → Good ls k s c.outs (values.on_val s (steps.value_at s (place i l) n) (values.sets s r)) (Cpu.word c ((base_of k i + l + n) % Cpu.all) (Cpu.sets c r))
-        go i l f none e = rw e (sym rel.outs)
-        go i l f (some (val v)) e = let x = held_inv s i (l + n) (val v) e in let y = (rel.mem.cells i x.0 x.1 x.2 x.3).cell (l + n) (val v) x.4 in rw e (found i l y.0 v f y.1 y.2.0 y.2.1)
-        go i l f (some (link y o)) e = rw e (sym rel.outs)
-        go i l f (some (label x)) e = rw e (sym rel.outs)
-        go i l f (some (code o)) e = rw e (sym rel.outs)
+        go i l f None e = rw e (sym rel.outs)
+        go i l f (Some (val v)) e = let x = held_inv s i (l + n) (val v) e in let y = (rel.mem.cells i x.0 x.1 x.2 x.3).cell (l + n) (val v) x.4 in rw e (found i l y.0 v f y.1 y.2.0 y.2.1)
+        go i l f (Some (link y o)) e = rw e (sym rel.outs)
+        go i l f (Some (label x)) e = rw e (sym rel.outs)
+        go i l f (Some (code o)) e = rw e (sym rel.outs)

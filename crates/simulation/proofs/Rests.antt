@@ -1,7 +1,9 @@
 -- The loader goes on with pending calls: each thing that it does is a step of the meaning.
+use Rattle.std.specs.List.{AllByRecursion}
+use Rattle.std.specs.Prelude.{filter}
 use Rattle.std.proofs.Common.{◌≡◌, ℕ, suc, List, [], ◌∷◌, length, sym, refl, ap, ◌∙◌, subst, arith}
 use Rattle.std.proofs.lemmas.Bool.{eq-eqb}
-use Rattle.base.specs.Lists.{Each, has, keep}
+use Rattle.base.specs.Lists.{has}
 use Rattle.library.specs.Library.{Library}
 use Rattle.links.specs.Links.{Place, Links, Room}
 use Rattle.links.specs.Close.{leaving, unload, unload_all, fini_calls}
@@ -26,7 +28,7 @@ nowhere_step ls m s e = rw (eq-eqb s.core.here.cell 8589934592 e)
 pub next_is : (w : World) (n : ℕ) (z : State) → at w n ≡ goes z → at w (suc n) ≡ steps.step w.libs w.memory z
 next_is w n z e = ap (λ x. steps.then x (steps.step w.libs w.memory)) e
 
-pub finis_fit : (ls : List Library) (k : Layout) (ks : Links) (css : List (List Held)) (ws : List ℕ) → Mem ls k ks css ws → (js : List ℕ) → Each (FitsPlace k) (fini_calls ks js)
+pub finis_fit : (ls : List Library) (k : Layout) (ks : Links) (css : List (List Held)) (ws : List ℕ) → Mem ls k ks css ws → (js : List ℕ) → AllByRecursion (FitsPlace k) (fini_calls ks js)
 finis_fit ls k ks css ws mem js = calls_fit k ks.modules ks.used (length ws) mem.ground (λ l. l.finis) (λ l f. f.finis) _
 
 module _ (w : World) (l : Loader) (i : ℕ) (c : Processor) (b : Between w l i c) where
@@ -72,7 +74,7 @@ module _ (w : World) (l : Loader) (i : ℕ) (c : Processor) (b : Between w l i c
       links = ap (unload js) b.matches.links;
       rows = refl;
     }) (record {
-      mem = mem_under w.libs k b.z.links b.z.cells c.words (unload_all (keep (λ j. has j (leaving b.z.links)) js) b.z.links.modules) (under_unload (keep (λ j. has j (leaving b.z.links)) js) b.z.links.modules) b.idle.mem;
+      mem = mem_under w.libs k b.z.links b.z.cells c.words (unload_all (filter (λ j. has j (leaving b.z.links)) js) b.z.links.modules) (under_unload (filter (λ j. has j (leaving b.z.links)) js) b.z.links.modules) b.idle.mem;
       regs = values_put k b.z.core.regs c.regs r (num 1) b.idle.regs (omega arith);
       here = record { is = refl; fit = h.1 };
       backs = b.idle.backs;

@@ -1,10 +1,9 @@
 -- Arithmetic on values and on words.
+use Rattle.std.specs.Prelude.{None, Option, Some, cond, slice_get}
 use Rattle.std.proofs.Common.{◌≡◌, ℕ, ◌+◌, ◌-◌, ◌*◌, ◌%◌, ◌<◌, Bool, true, false, ◌&&◌, eqb, ltb, leb, List, length, sym, refl, arith}
-use mathlib.Core.Option.{Option, some, none}
 use Rattle.std.proofs.lemmas.Bool.{leb-true, eqb-true, ne_eqb, and_parts}
 use Rattle.std.proofs.lemmas.Bool.Decides.{nat_tests}
-use Rattle.base.specs.Choices.{pick, on_some, guard}
-use Rattle.base.specs.Lists.{nth}
+use Rattle.base.specs.Choices.{on_some, guard}
 use Rattle.library.specs.Library.{Add, Sub, Mul, Less, Same, Library}
 use Rattle.links.specs.Links.{Module, Room}
 use Rattle.meaning.specs.State.{Value, num, place, State}
@@ -19,10 +18,10 @@ use Rattle.simulation.proofs.Plain.{Good, sets_good, on_reg}
 
 -- what an operation on values gives is what the one on words gives
 abbrev Gives : Layout → Option Value → ℕ → Type 0
-Gives k none w = Unit
-Gives k (some v) w = Fits k v × (w % Cpu.all ≡ addr k v)
+Gives k None w = Unit
+Gives k (Some v) w = Fits k v × (w % Cpu.all ≡ addr k v)
 
-pick_gives : (k : Layout) (b : Bool) (o p : Option Value) (w : ℕ) → (b ≡ true → Gives k o w) → (b ≡ false → Gives k p w) → Gives k (pick b o p) w
+pick_gives : (k : Layout) (b : Bool) (o p : Option Value) (w : ℕ) → (b ≡ true → Gives k o w) → (b ≡ false → Gives k p w) → Gives k (cond b o p) w
 pick_gives k true o p w f g = f refl
 pick_gives k false o p w f g = g refl
 
@@ -32,7 +31,7 @@ guard_gives k false o w f = tt
 
 module _ (ls : List Library) (k : Layout) (s : State) (c : Processor) (rel : Rel ls k s c) where
   moves_gives : (i j n w : ℕ) → Fits k (place i j) → n < Cpu.all → w % Cpu.all ≡ (base_of k i + j + n) % Cpu.all → Gives k (values.moves s i j n) w
-  moves_gives i j n w f h e = go (nth s.links.modules i) refl
+  moves_gives i j n w f h e = go (slice_get s.links.modules i) refl
     where
       l : base_of k i + size_of k i < length c.words
       l = rel.mem.ground.placed.last i f.0
@@ -40,15 +39,15 @@ module _ (ls : List Library) (k : Layout) (s : State) (c : Processor) (rel : Rel
       few : length c.words < 4294967296
       few = rel.mem.ground.placed.few
 
-      up : (z : ℕ) → z ≡ size_of k i → leb (j + n) z ≡ true → Gives k (some (place i (j + n))) w
+      up : (z : ℕ) → z ≡ size_of k i → leb (j + n) z ≡ true → Gives k (Some (place i (j + n))) w
       up z q u = let p = leb-true (j + n) z u in ((f.0, omega (arith, l, few)), omega (arith, l, few))
 
-      down : (z : ℕ) → z ≡ size_of k i → (leb (Cpu.all - n) j && leb (j - (Cpu.all - n)) z) ≡ true → Gives k (some (place i (j - (Cpu.all - n)))) w
+      down : (z : ℕ) → z ≡ size_of k i → (leb (Cpu.all - n) j && leb (j - (Cpu.all - n)) z) ≡ true → Gives k (Some (place i (j - (Cpu.all - n)))) w
       down z q u = let p = and_parts _ _ u in let p0 = leb-true (Cpu.all - n) j p.0 in let p1 = leb-true (j - (Cpu.all - n)) z p.1 in ((f.0, omega (arith, l, few, f.1)), omega (arith, l, few, f.1))
 
-      go : (o : Option Module) → nth s.links.modules i ≡ o → Gives k (on_some (on_some o (λ x. some (length x.lib.cells))) (λ z. pick (ltb n values.half) (guard (leb (j + n) z) (some (place i (j + n)))) (guard (leb (Cpu.all - n) j && leb (j - (Cpu.all - n)) z) (some (place i (j - (Cpu.all - n))))))) w
-      go none q = tt
-      go (some x) q = let z = sym (rel.mem.ground.sized i x q) in pick_gives k (ltb n values.half) _ _ w (λ t. guard_gives k _ (some (place i (j + n))) w (up (length x.lib.cells) z)) (λ t. guard_gives k _ (some (place i (j - (Cpu.all - n)))) w (down (length x.lib.cells) z))
+      go : (o : Option Module) → slice_get s.links.modules i ≡ o → Gives k (on_some (on_some o (λ x. Some (length x.lib.cells))) (λ z. cond (ltb n values.half) (guard (leb (j + n) z) (Some (place i (j + n)))) (guard (leb (Cpu.all - n) j && leb (j - (Cpu.all - n)) z) (Some (place i (j - (Cpu.all - n))))))) w
+      go None q = tt
+      go (Some x) q = let z = sym (rel.mem.ground.sized i x q) in pick_gives k (ltb n values.half) _ _ w (λ t. guard_gives k _ (Some (place i (j + n))) w (up (length x.lib.cells) z)) (λ t. guard_gives k _ (Some (place i (j - (Cpu.all - n)))) w (down (length x.lib.cells) z))
 
   plus_gives : (x y : Value) → Fits k x → Fits k y → Gives k (values.plus s x y) (addr k x + addr k y)
   plus_gives (num x) (num y) f g = (omega arith, refl)
@@ -67,7 +66,7 @@ module _ (ls : List Library) (k : Layout) (s : State) (c : Processor) (rel : Rel
   times_gives (num x) (place i j) f g = tt
   times_gives (place i j) y f g = tt
 
-  bit_gives : (b d : Bool) → b ≡ d → Gives k (some (values.bit b)) (Cpu.bit d)
+  bit_gives : (b d : Bool) → b ≡ d → Gives k (Some (values.bit b)) (Cpu.bit d)
   bit_gives true d e = rw (← e) (omega arith, refl)
   bit_gives false d e = rw (← e) (omega arith, refl)
 
@@ -87,8 +86,8 @@ module _ (ls : List Library) (k : Layout) (s : State) (c : Processor) (rel : Rel
   two_good r a b f g low h = on_reg ls k s c rel a _ _ (λ x fx. on_reg ls k s c rel b _ _ (λ y fy. go x y (f x y) (h x y fx fy)))
     where
       go : (x y : Value) (o : Option Value) → Gives k o (g (addr k x) (addr k y)) → Good ls k s c.outs (values.on_val s o (values.sets s r)) (Cpu.sets c r (g (addr k x) (addr k y)))
-      go x y none q = sym rel.outs
-      go x y (some v) q = sets_good ls k s c rel r _ v low q.0 q.1
+      go x y None q = sym rel.outs
+      go x y (Some v) q = sets_good ls k s c rel r _ v low q.0 q.1
 
   module _ (m : Room) (low : s.core.here.cell < size_of k s.core.here.host) where
     pub add_good : (r a b : ℕ) → Good ls k s c.outs (steps.does ls m s (Add r a b)) (Cpu.does c (fields (Add r a b) s.core.here.cell))

@@ -1,9 +1,8 @@
 -- One step of the processor, and what it is of the meaning.
+use Rattle.std.specs.List.{AllByRecursion}
+use Rattle.std.specs.Prelude.{None, Option, Some, cond, slice_get}
 use Rattle.std.proofs.Common.{◌≡◌, ℕ, ◌+◌, ◌<◌, Bool, true, false, eqb, List, [], ◌∷◌, ◌++◌, map, sym, refl, ap, ◌∙◌, arith}
-use mathlib.Core.Option.{Option, some, none}
 use Rattle.std.proofs.lemmas.Bool.{ne_eqb}
-use Rattle.base.specs.Choices.{pick}
-use Rattle.base.specs.Lists.{nth, Each}
 use Rattle.base.proofs.Lists.{nth_lt}
 use Rattle.library.specs.Library.{Instruction, Set, Get, Sto, Own, Add, Sub, Mul, Less, Same, Move, Jump, If0, Call, Callr, Ret, Push, Pop, Out, In, Open, Find, Close, End, Library}
 use Rattle.library.specs.Fine.{Fine, InCells}
@@ -34,24 +33,24 @@ module _ (k : Layout) (ls : List Library) (m : Room) (s : State) (c : Processor)
   pub m_step : (h : Option Held) → state.held_at s s.core.here.host s.core.here.cell ≡ h → steps.step ls m s ≡ steps.here_code h (steps.does ls m s) (wrong s)
   m_step h e = rw (ne_eqb s.core.here.cell 8589934592 (λ q. omega (arith, rel.here.fit.1)), e)
 
-  module _ (o : Instruction) (e : state.held_at s s.core.here.host s.core.here.cell ≡ some (code o)) where
-    pub at_code : (w : ℕ) × (nth c.words (base_of k s.core.here.host + s.core.here.cell) ≡ some w) × Holds ls k (size_of k s.core.here.host) s.core.here.cell (code o) w
+  module _ (o : Instruction) (e : state.held_at s s.core.here.host s.core.here.cell ≡ Some (code o)) where
+    pub at_code : (w : ℕ) × (slice_get c.words (base_of k s.core.here.host + s.core.here.cell) ≡ Some w) × Holds ls k (size_of k s.core.here.host) s.core.here.cell (code o) w
     at_code = has_word ls k s c rel s.core.here.host s.core.here.cell (code o) e
 
     pub c_step : Cpu.step c ≡ Cpu.does c (fields o s.core.here.cell)
-    c_step = let w : nth c.words c.pc ≡ some (encode o s.core.here.cell) = ap (nth c.words) rel.here.is ∙ at_code.1 ∙ ap some at_code.2.0 in rw (ne_eqb c.pc 0 (λ q. omega (arith, rel.here.is, rel.mem.ground.placed.first s.core.here.host rel.here.fit.0)), w) (ap (Cpu.does c) (fields_back o s.core.here.cell at_code.2.1))
+    c_step = let w : slice_get c.words c.pc ≡ Some (encode o s.core.here.cell) = ap (slice_get c.words) rel.here.is ∙ at_code.1 ∙ ap Some at_code.2.0 in rw (ne_eqb c.pc 0 (λ q. omega (arith, rel.here.is, rel.mem.ground.placed.first s.core.here.host rel.here.fit.0)), w) (ap (Cpu.does c) (fields_back o s.core.here.cell at_code.2.1))
 
     pub low : s.core.here.cell < size_of k s.core.here.host
     low = let x = held_inv s s.core.here.host s.core.here.cell (code o) e in omega (arith, nth_lt x.1 s.core.here.cell (code o) x.4, (rel.mem.cells s.core.here.host x.0 x.1 x.2 x.3).sized)
 
-  by_good : (o : Instruction) → state.held_at s s.core.here.host s.core.here.cell ≡ some (code o) → Good ls k s c.outs (steps.does ls m s o) (Cpu.does c (fields o s.core.here.cell)) → Turn k ls m s c
+  by_good : (o : Instruction) → state.held_at s s.core.here.host s.core.here.cell ≡ Some (code o) → Good ls k s c.outs (steps.does ls m s o) (Cpu.does c (fields o s.core.here.cell)) → Turn k ls m s c
   by_good o e g = from_good _ _ (m_step _ e) (c_step o e) g
 
   -- the word at an own cell that an instruction names
-  own_word : (j : ℕ) (h : Held) → s.core.here.cell < size_of k s.core.here.host → j < size_of k s.core.here.host → steps.own s j ≡ some h → (w : ℕ) × (nth c.words (Cpu.there c (apart j s.core.here.cell)) ≡ some w) × Holds ls k (size_of k s.core.here.host) j h w
-  own_word j h l i q = let t = has_word ls k s c rel s.core.here.host j h q in (t.0, ap (nth c.words) (own_there ls k s c rel m l j i) ∙ t.1, t.2)
+  own_word : (j : ℕ) (h : Held) → s.core.here.cell < size_of k s.core.here.host → j < size_of k s.core.here.host → steps.own s j ≡ Some h → (w : ℕ) × (slice_get c.words (Cpu.there c (apart j s.core.here.cell)) ≡ Some w) × Holds ls k (size_of k s.core.here.host) j h w
+  own_word j h l i q = let t = has_word ls k s c rel s.core.here.host j h q in (t.0, ap (slice_get c.words) (own_there ls k s c rel m l j i) ∙ t.1, t.2)
 
-  on_code : (o : Instruction) → state.held_at s s.core.here.host s.core.here.cell ≡ some (code o) → Fine o → InCells o (size_of k s.core.here.host) → Turn k ls m s c
+  on_code : (o : Instruction) → state.held_at s s.core.here.host s.core.here.cell ≡ Some (code o) → Fine o → InCells o (size_of k s.core.here.host) → Turn k ls m s c
   on_code (Set r n) e f i = by_good _ e (set_good ls k s c rel m (low _ e) r n f)
   on_code (Get r a n) e f i = by_good _ e (get_good ls k s c rel m (low _ e) r a n f)
   on_code (Sto a n r) e f i = by_good _ e (sto_good ls k s c rel m (low _ e) a n r f)
@@ -67,16 +66,16 @@ module _ (k : Layout) (ls : List Library) (m : Room) (s : State) (c : Processor)
   on_code (Call j) e f i = go (steps.own s j) refl
     where
       go : (o : Option Held) → steps.own s j ≡ o → Turn k ls m s c
-      go none q = fell s (m_step _ e ∙ ap (steps.calls_through s j) q) (sym rel.outs)
-      go (some (val v)) q = fell s (m_step _ e ∙ ap (steps.calls_through s j) q) (sym rel.outs)
-      go (some (link y none)) q = asked (Call j) e (m_step _ e) f (record {
+      go None q = fell s (m_step _ e ∙ ap (steps.calls_through s j) q) (sym rel.outs)
+      go (Some (val v)) q = fell s (m_step _ e ∙ ap (steps.calls_through s j) q) (sym rel.outs)
+      go (Some (link y None)) q = asked (Call j) e (m_step _ e) f (record {
         symbol = y;
         unsettled = q;
-        asks = let t = own_word j (link y none) (low _ e) i q in c_step _ e ∙ rw (t.1, t.2, own_there ls k s c rel m (low _ e) j i);
+        asks = let t = own_word j (link y None) (low _ e) i q in c_step _ e ∙ rw (t.1, t.2, own_there ls k s c rel m (low _ e) j i);
       })
-      go (some (link y (some v))) q = by_good _ e (call_good ls k s c rel m (low _ e) j y v i q)
-      go (some (label x)) q = fell s (m_step _ e ∙ ap (steps.calls_through s j) q) (sym rel.outs)
-      go (some (code o)) q = fell s (m_step _ e ∙ ap (steps.calls_through s j) q) (sym rel.outs)
+      go (Some (link y (Some v))) q = by_good _ e (call_good ls k s c rel m (low _ e) j y v i q)
+      go (Some (label x)) q = fell s (m_step _ e ∙ ap (steps.calls_through s j) q) (sym rel.outs)
+      go (Some (code o)) q = fell s (m_step _ e ∙ ap (steps.calls_through s j) q) (sym rel.outs)
   on_code (Callr r) e f i = by_good _ e (callr_good ls k s c rel m (low _ e) r f)
   on_code Ret e f i = go s.core.frames refl
     where
@@ -98,7 +97,7 @@ module _ (k : Layout) (ls : List Library) (m : Room) (s : State) (c : Processor)
           b : c.backs ≡ 0 ∷ (map (addr_back k) fs ++ rel.backs.rest)
           b = rel.backs.are ∙ ap (λ x. map (addr_back k) x ++ rel.backs.rest) q
 
-          ff : Each (FitsFrame k) (pending ps g ∷ fs)
+          ff : AllByRecursion (FitsFrame k) (pending ps g ∷ fs)
           ff = rw q at rel.backs.fit
   on_code (Push r) e f i = by_good _ e (push_good ls k s c rel m (low _ e) r f)
   on_code (Pop r) e f i = by_good _ e (pop_good ls k s c rel m (low _ e) r f)
@@ -106,41 +105,41 @@ module _ (k : Layout) (ls : List Library) (m : Room) (s : State) (c : Processor)
   on_code (In r) e f i = by_good _ e (in_good ls k s c rel m (low _ e) r f)
   on_code (Open r j b) e f i = go (steps.own s j) refl
     where
-      flag : (b : Bool) → eqb (pick b 1 0) 1 ≡ b
+      flag : (b : Bool) → eqb (cond b 1 0) 1 ≡ b
       flag true = refl
       flag false = refl
 
       go : (o : Option Held) → steps.own s j ≡ o → Turn k ls m s c
-      go none q = fell s (m_step _ e ∙ rw q) (sym rel.outs)
-      go (some (val v)) q = fell s (m_step _ e ∙ rw q) (sym rel.outs)
-      go (some (link y o)) q = fell s (m_step _ e ∙ rw q) (sym rel.outs)
-      go (some (label x)) q = let t = own_word j (label x) (low _ e) i q in asked (Open r j b) e (m_step _ e) f (record {
+      go None q = fell s (m_step _ e ∙ rw q) (sym rel.outs)
+      go (Some (val v)) q = fell s (m_step _ e ∙ rw q) (sym rel.outs)
+      go (Some (link y o)) q = fell s (m_step _ e ∙ rw q) (sym rel.outs)
+      go (Some (label x)) q = let t = own_word j (label x) (low _ e) i q in asked (Open r j b) e (m_step _ e) f (record {
         name = x;
         word = t.0;
         holds = q;
         counted = t.2;
         asks = c_step _ e ∙ rw (t.1, flag b);
       })
-      go (some (code o)) q = fell s (m_step _ e ∙ rw q) (sym rel.outs)
+      go (Some (code o)) q = fell s (m_step _ e ∙ rw q) (sym rel.outs)
   on_code (Find r a j) e f i = go (steps.own s j) refl
     where
       nums : (o : Option Value) → values.on_num s o (λ h. wrong s) ≡ wrong s
-      nums none = refl
-      nums (some (num n)) = refl
-      nums (some (place i l)) = refl
+      nums None = refl
+      nums (Some (num n)) = refl
+      nums (Some (place i l)) = refl
 
       go : (o : Option Held) → steps.own s j ≡ o → Turn k ls m s c
-      go none q = fell s (m_step _ e ∙ rw q (nums (values.reg s a))) (sym rel.outs)
-      go (some (val v)) q = fell s (m_step _ e ∙ rw q (nums (values.reg s a))) (sym rel.outs)
-      go (some (link y o)) q = fell s (m_step _ e ∙ rw q (nums (values.reg s a))) (sym rel.outs)
-      go (some (label x)) q = let t = own_word j (label x) (low _ e) i q in asked (Find r a j) e (m_step _ e) f (record {
+      go None q = fell s (m_step _ e ∙ rw q (nums (values.reg s a))) (sym rel.outs)
+      go (Some (val v)) q = fell s (m_step _ e ∙ rw q (nums (values.reg s a))) (sym rel.outs)
+      go (Some (link y o)) q = fell s (m_step _ e ∙ rw q (nums (values.reg s a))) (sym rel.outs)
+      go (Some (label x)) q = let t = own_word j (label x) (low _ e) i q in asked (Find r a j) e (m_step _ e) f (record {
         name = x;
         word = t.0;
         holds = q;
         counted = t.2;
         asks = c_step _ e ∙ rw t.1;
       })
-      go (some (code o)) q = fell s (m_step _ e ∙ rw q (nums (values.reg s a))) (sym rel.outs)
+      go (Some (code o)) q = fell s (m_step _ e ∙ rw q (nums (values.reg s a))) (sym rel.outs)
   on_code (Close r) e f i = asked (Close r) e (m_step _ e) f (c_step _ e)
   on_code (End r) e f i = asked (End r) e (m_step _ e) f (c_step _ e)
 
@@ -148,11 +147,11 @@ module _ (k : Layout) (ls : List Library) (m : Room) (s : State) (c : Processor)
   turn = go (state.held_at s s.core.here.host s.core.here.cell) refl
     where
       go : (o : Option Held) → state.held_at s s.core.here.host s.core.here.cell ≡ o → Turn k ls m s c
-      go none e = fell s (m_step _ e) (sym rel.outs)
-      go (some (val v)) e = fell s (m_step _ e) (sym rel.outs)
-      go (some (link y o)) e = fell s (m_step _ e) (sym rel.outs)
-      go (some (label x)) e = fell s (m_step _ e) (sym rel.outs)
-      go (some (code o)) e = let t = at_code o e in on_code o e t.2.1 t.2.2
+      go None e = fell s (m_step _ e) (sym rel.outs)
+      go (Some (val v)) e = fell s (m_step _ e) (sym rel.outs)
+      go (Some (link y o)) e = fell s (m_step _ e) (sym rel.outs)
+      go (Some (label x)) e = fell s (m_step _ e) (sym rel.outs)
+      go (Some (code o)) e = let t = at_code o e in on_code o e t.2.1 t.2.2
 
 pub turns : Rattle.simulation.specs.Turns.Turns
 turns k ls m s c rel = turn k ls m s c rel

@@ -1,9 +1,8 @@
 -- Modules that keep their libraries, and of which some may be gone: their memory stays as it is.
+use Rattle.std.specs.Prelude.{None, Option, Some, slice_get, slice_set}
 use Rattle.std.proofs.Common.{◌≡◌, ℕ, true, List, [], ◌∷◌, length, sym, refl, ap, ◌∙◌, ⊎_elim, arith}
-use mathlib.Core.Option.{Option, some, none}
 use Rattle.std.proofs.lemmas.Bool.{cases_eq}
 use Rattle.base.specs.Choices.{opt}
-use Rattle.base.specs.Lists.{nth, put}
 use Rattle.base.proofs.Choices.{some_is}
 use Rattle.base.proofs.Lists.{length-put, nth_lt, put_same, put_other}
 use Rattle.library.specs.Library.{Library}
@@ -18,16 +17,16 @@ use Rattle.simulation.specs.Relation.{Kept, Mem}
 -- ms' has the libraries of ms, and no more live ones
 pub record Under (ms ms' : List Module) : Type 0 where
   pub count : length ms' ≡ length ms
-  pub old : (i : ℕ) (x : Module) → nth ms' i ≡ some x → (y : Module) × (nth ms i ≡ some y) × (y.lib ≡ x.lib) × (x.live ≡ true → y.live ≡ true)
+  pub old : (i : ℕ) (x : Module) → slice_get ms' i ≡ Some x → (y : Module) × (slice_get ms i ≡ Some y) × (y.lib ≡ x.lib) × (x.live ≡ true → y.live ≡ true)
 
-pub under_put : (ms : List Module) (i : ℕ) (y z : Module) → nth ms i ≡ some y → y.lib ≡ z.lib → (z.live ≡ true → y.live ≡ true) → Under ms (put ms i z)
+pub under_put : (ms : List Module) (i : ℕ) (y z : Module) → slice_get ms i ≡ Some y → y.lib ≡ z.lib → (z.live ≡ true → y.live ≡ true) → Under ms (slice_set ms i z)
 under_put ms i y z e l v = record { count = length-put ms i z; old = λ j x q. ⊎_elim (λ p. here j x p q) (λ p. (x, sym (put_other ms i j z p) ∙ q, refl, λ h. h)) (cases_eq j i) }
   where
-    here : (j : ℕ) (x : Module) → j ≡ i → nth (put ms i z) j ≡ some x → (y : Module) × (nth ms j ≡ some y) × (y.lib ≡ x.lib) × (x.live ≡ true → y.live ≡ true)
-    here j x p q = let r : z ≡ x = some_is (sym (put_same ms i z (nth_lt ms i y e)) ∙ ap (nth (put ms i z)) (sym p) ∙ q) in (y, ap (nth ms) p ∙ e, l ∙ ap (λ t. t.lib) r, λ h. v (ap (λ t. t.live) r ∙ h))
+    here : (j : ℕ) (x : Module) → j ≡ i → slice_get (slice_set ms i z) j ≡ Some x → (y : Module) × (slice_get ms j ≡ Some y) × (y.lib ≡ x.lib) × (x.live ≡ true → y.live ≡ true)
+    here j x p q = let r : z ≡ x = some_is (sym (put_same ms i z (nth_lt ms i y e)) ∙ ap (slice_get (slice_set ms i z)) (sym p) ∙ q) in (y, ap (slice_get ms) p ∙ e, l ∙ ap (λ t. t.lib) r, λ h. v (ap (λ t. t.live) r ∙ h))
 
 module _ (ms ms' : List Module) (w : Under ms ms') where
-  live_under : (i : ℕ) (x : Module) → live_at ms' i ≡ some x → (y : Module) × (live_at ms i ≡ some y) × (y.lib ≡ x.lib)
+  live_under : (i : ℕ) (x : Module) → live_at ms' i ≡ Some x → (y : Module) × (live_at ms i ≡ Some y) × (y.lib ≡ x.lib)
   live_under i x e = let p = live_inv ms' i x e in let t = w.old i x p.0 in (t.0, live_from ms i t.0 t.1 (t.3 p.1), t.2)
 
   ground_under : (k : Layout) (u total : ℕ) → Ground k ms u total → Ground k ms' u total
@@ -45,7 +44,7 @@ module _ (ms ms' : List Module) (w : Under ms ms') where
   }
 
 kept_under : (ls : List Library) (k : Layout) (ws : List ℕ) (i : ℕ) (x y : Module) (hs : List Held) → y.lib ≡ x.lib → Kept ls k ws i y hs → Kept ls k ws i x hs
-kept_under ls k ws i x y hs e a = record { sized = a.sized; slots = λ j s o q. ap (λ l. nth l.cells j) (sym e) ∙ a.slots j s o q; cell = a.cell }
+kept_under ls k ws i x y hs e a = record { sized = a.sized; slots = λ j s o q. ap (λ l. slice_get l.cells j) (sym e) ∙ a.slots j s o q; cell = a.cell }
 
 pub mem_under : (ls : List Library) (k : Layout) (ks : Links) (css : List (List Held)) (ws : List ℕ) (ms' : List Module) → Under ks.modules ms' → Mem ls k ks css ws → Mem ls k (with_modules ks ms') css ws
 mem_under ls k ks css ws ms' w m = record {
@@ -63,8 +62,8 @@ under_self ms = record { count = refl; old = λ i x e. (x, e, refl, λ h. h) }
 
 pub under_unload : (js : List ℕ) (ms : List Module) → Under ms (unload_all js ms)
 under_unload [] ms = under_self ms
-under_unload (j ∷ js) ms = under_all ms (opt (nth ms j) ms (λ x. put ms j (unloaded x))) _ (go (nth ms j) refl) (under_unload js _)
+under_unload (j ∷ js) ms = under_all ms (opt (slice_get ms j) ms (λ x. slice_set ms j (unloaded x))) _ (go (slice_get ms j) refl) (under_unload js _)
   where
-    go : (o : Option Module) → nth ms j ≡ o → Under ms (opt o ms (λ x. put ms j (unloaded x)))
-    go none e = under_self ms
-    go (some x) e = under_put ms j x (unloaded x) e refl (λ h. let z : ◌≡◌ {A = ℕ} 0 1 = cc in absurd (omega arith))
+    go : (o : Option Module) → slice_get ms j ≡ o → Under ms (opt o ms (λ x. slice_set ms j (unloaded x)))
+    go None e = under_self ms
+    go (Some x) e = under_put ms j x (unloaded x) e refl (λ h. let z : ◌≡◌ {A = ℕ} 0 1 = cc in absurd (omega arith))

@@ -1,7 +1,7 @@
 -- A layout with more modules: what was there keeps its addresses.
+use Rattle.std.specs.List.{AllByRecursion}
+use Rattle.std.specs.Prelude.{None, Some, slice_get}
 use Rattle.std.proofs.Common.{◌≡◌, ℕ, ◌+◌, ◌<◌, ◌≤◌, List, [], ◌∷◌, ◌++◌, length, sym, refl, ap, ◌∙◌, arith}
-use mathlib.Core.Option.{some, none}
-use Rattle.base.specs.Lists.{nth, Each}
 use Rattle.base.proofs.Lists.{nth_lt, map_alike}
 use Rattle.library.specs.Library.{Library}
 use Rattle.links.specs.Links.{Place, Module}
@@ -27,7 +27,7 @@ module _ (k k' : Layout) (w : Wider k k') where
   addr_wider (num n) f = refl
   addr_wider (place i j) f = rw (w.base i f.0)
 
-  each_place_wider : (ps : List Place) → Each (FitsPlace k) ps → Each (FitsPlace k') ps
+  each_place_wider : (ps : List Place) → AllByRecursion (FitsPlace k) ps → AllByRecursion (FitsPlace k') ps
   each_place_wider [] f = tt
   each_place_wider (p ∷ ps) f = (fits_place_wider p f.0, each_place_wider ps f.1)
 
@@ -60,13 +60,13 @@ module _ (k k' : Layout) (w : Wider k k') where
 
   holds_wider : (ls : List Library) (z j : ℕ) (h : Held) (a : ℕ) → Holds ls k z j h a → Holds ls k' z j h a
   holds_wider ls z j (val v) a x = (x.0 ∙ sym (addr_wider v x.1), fits_wider v x.1)
-  holds_wider ls z j (link y none) a x = x
-  holds_wider ls z j (link y (some v)) a x = (x.0 ∙ sym (addr_wider v x.1), fits_wider v x.1)
+  holds_wider ls z j (link y None) a x = x
+  holds_wider ls z j (link y (Some v)) a x = (x.0 ∙ sym (addr_wider v x.1), fits_wider v x.1)
   holds_wider ls z j (label y) a x = x
   holds_wider ls z j (code o) a x = x
 
   -- the words of what was placed are unchanged
-  pub kept_wider : (ls : List Library) (ws ws' : List ℕ) (i : ℕ) (x : Module) (hs : List Held) → i < length k.bases → Kept ls k ws i x hs → ((j : ℕ) → j < size_of k i → nth ws' (base_of k i + j) ≡ nth ws (base_of k i + j)) → Kept ls k' ws' i x hs
+  pub kept_wider : (ls : List Library) (ws ws' : List ℕ) (i : ℕ) (x : Module) (hs : List Held) → i < length k.bases → Kept ls k ws i x hs → ((j : ℕ) → j < size_of k i → slice_get ws' (base_of k i + j) ≡ slice_get ws (base_of k i + j)) → Kept ls k' ws' i x hs
   kept_wider ls ws ws' i x hs h kx e = record {
     sized = kx.sized ∙ sym (w.size i h);
     slots = kx.slots;
@@ -80,7 +80,7 @@ module _ (k k' : Layout) (w : Wider k k') where
   resumes_wider (ends n) f = refl
   resumes_wider (stops n) f = refl
 
-  pub pendings_wider : (fs : List Frame) → Each (FitsFrame k) fs → pendings k' fs ≡ pendings k fs
+  pub pendings_wider : (fs : List Frame) → AllByRecursion (FitsFrame k) fs → pendings k' fs ≡ pendings k fs
   pendings_wider [] f = refl
   pendings_wider (back p ∷ fs) f = pendings_wider fs f.1
   pendings_wider (pending ps q ∷ fs) f = λ i. row ps (resumes_wider q f.0.1 i) ∷ pendings_wider fs f.1 i

@@ -1,7 +1,6 @@
 -- What the loader may rely on when a step has told its event, and what it has to do.
-use Rattle.std.specs.Prelude.{◌≡◌, ℕ, suc, ◌+◌, ◌<◌, Bool, true, false, not, ◌&&◌, ◌⊎◌, List, [], ◌∷◌, ◌++◌, length, ◌==◌}
-use Rattle.std.proofs.Math.Option.{some, none}
-use Rattle.base.specs.Lists.{nth, Each}
+use Rattle.std.specs.List.{AllByRecursion}
+use Rattle.std.specs.Prelude.{◌≡◌, ℕ, suc, ◌+◌, ◌<◌, Bool, true, false, not, ◌&&◌, ◌⊎◌, List, [], ◌∷◌, ◌++◌, length, ◌==◌, None, Some, slice_get}
 use Rattle.base.specs.Names.{Name}
 use Rattle.library.specs.Library.{Symbol, slot, Library, any_version, main_name, label_at}
 use Rattle.library.specs.Text.{reads}
@@ -36,17 +35,17 @@ pub record Binding (w : World) (l : Loader) (i : ℕ) (c : Processor) (a : ℕ) 
   pub x : Module
   pub j : ℕ
   pub y : Symbol
-  pub live : live_at l.links.modules me ≡ some x
-  pub at_slot : nth x.lib.cells j ≡ some (slot y)
+  pub live : live_at l.links.modules me ≡ Some x
+  pub at_slot : slice_get x.lib.cells j ≡ Some (slot y)
   pub address : a ≡ base_of l.layout me + j
   pub inside : j < size_of l.layout me
   pub within : a < length c.words
-  pub sized : (i' : ℕ) (x' : Module) → live_at l.links.modules i' ≡ some x' → size_of l.layout i' ≡ length x'.lib.cells
-  pub alone : (i' : ℕ) (x' : Module) (j' : ℕ) → live_at l.links.modules i' ≡ some x' → a ≡ base_of l.layout i' + j' → j' < size_of l.layout i' → (i' ≡ me) × (j' ≡ j)
+  pub sized : (i' : ℕ) (x' : Module) → live_at l.links.modules i' ≡ Some x' → size_of l.layout i' ≡ length x'.lib.cells
+  pub alone : (i' : ℕ) (x' : Module) (j' : ℕ) → live_at l.links.modules i' ≡ Some x' → a ≡ base_of l.layout i' + j' → j' < size_of l.layout i' → (i' ≡ me) × (j' ≡ j)
   -- its symbol means nothing: the program is lost
-  pub nowhere : resolve l.links me y ≡ none → LostAt w c.outs
+  pub nowhere : resolve l.links me y ≡ None → LostAt w c.outs
   -- its symbol means p: the slot's word becomes p's address, and the step is made again
-  pub settled : (p : Place) → resolve l.links me y ≡ some p → Stands w (with_links l (slot_bound l.links me j p)) i (poked c a (addr_place l.layout p))
+  pub settled : (p : Place) → resolve l.links me y ≡ Some p → Stands w (with_links l (slot_bound l.links me j p)) i (poked c a (addr_place l.layout p))
 
 -- a load was made: with its images laid down at their starts, these calls are pending; k is the layout with the new modules
 abbrev pub Opened : World → Loader → ℕ → Processor → Loaded → List Place → Resume → Type 0
@@ -55,21 +54,21 @@ Opened w l i c q ps f = (k : Layout) × (k.bases ≡ l.layout.bases ++ q.starts)
 -- open: the number of the name's cell, the register, whether the group is global
 pub record Opening (w : World) (l : Loader) (i : ℕ) (c : Processor) (n r : ℕ) (global : Bool) : Type 0 where
   pub x : Name
-  pub label : label_at w.libs n ≡ some x
+  pub label : label_at w.libs n ≡ Some x
   pub small : r < 8
   -- it can't be loaded: the register gets 0
-  pub refused : load w.libs w.memory x global l.links ≡ none → Stands w l i (with_reg c r 0)
+  pub refused : load w.libs w.memory x global l.links ≡ None → Stands w l i (with_reg c r 0)
   -- it is loaded: inits are pending, then the register gets the group's number
-  pub opened : (q : Loaded) → load w.libs w.memory x global l.links ≡ some q → Opened w l i c q q.calls (resume r (length l.links.groups) c.pc)
+  pub opened : (q : Loaded) → load w.libs w.memory x global l.links ≡ Some q → Opened w l i c q q.calls (resume r (length l.links.groups) c.pc)
 
 -- find: the register, the register of the group, the number of the name's cell
 pub record Finding (w : World) (l : Loader) (i : ℕ) (c : Processor) (r s n : ℕ) : Type 0 where
   pub x : Name
-  pub label : label_at w.libs n ≡ some x
+  pub label : label_at w.libs n ≡ Some x
   pub small : r < 8
   pub small_s : s < 8
   pub h : ℕ
-  pub group : nth c.regs s ≡ some h
+  pub group : slice_get c.regs s ≡ Some h
   -- the register gets the address that the name has in the group, or 0
   pub found : Stands w l i (with_reg c r (addr l.layout (place_of (found_in l.links h x) 0)))
 
@@ -85,7 +84,7 @@ closed l r a ks = record { layout = l.layout; links = ks; rows = row (fini_calls
 pub record Closing (w : World) (l : Loader) (i : ℕ) (c : Processor) (r : ℕ) : Type 0 where
   pub small : r < 8
   pub h : ℕ
-  pub group : nth c.regs r ≡ some h
+  pub group : slice_get c.regs r ≡ Some h
   -- it may not be closed: the register gets 0
   pub refused : closes l h ≡ false → Stands w l i (with_reg c r 0)
   pub shut : closes l h ≡ true → Between w (closed l r c.pc (close_group l.links h)) i c
@@ -98,7 +97,7 @@ finishing l v = with_rows l (row (fini_calls l.links l.links.order) (stop v) ∷
 pub record Ending (w : World) (l : Loader) (i : ℕ) (c : Processor) (r : ℕ) : Type 0 where
   pub small : r < 8
   pub v : ℕ
-  pub value : nth c.regs r ≡ some v
+  pub value : slice_get c.regs r ≡ Some v
   pub ends : Between w (finishing l v) i c
 
 -- what holds when a step told an event; c: the processor behind the step, i: steps made, this one too
@@ -114,7 +113,7 @@ Hears w l i c (Cpu.End r) = Fell (at w) c.outs ⊎ Ending w l i c r
 
 -- it holds after every step, of a program whose libraries are in range and whose room is the processor's memory
 abbrev pub StepHeard : Type 0
-StepHeard = (w : World) (l : Loader) (i : ℕ) (c : Processor) → Each LibraryFine w.libs → w.memory.words ≡ length c.words → Stands w l i c → Hears w l (suc i) (Cpu.step c).cpu (Cpu.step c).event
+StepHeard = (w : World) (l : Loader) (i : ℕ) (c : Processor) → AllByRecursion LibraryFine w.libs → w.memory.words ≡ length c.words → Stands w l i c → Hears w l (suc i) (Cpu.step c).cpu (Cpu.step c).event
 
 -- what holds when the loader goes on with its newest pending calls; rs: the others
 abbrev pub GoesOn : World → Loader → ℕ → Processor → List Row → List Place → Resume → Type 0
@@ -134,4 +133,4 @@ nothing_loaded = record { layout = record { bases = []; sizes = [] }; links = (b
 
 -- a text whose first library has a main and can be loaded: on a fresh processor, with its images laid down, its inits and main are pending
 abbrev pub Begins : Type 0
-Begins = (t : List ℕ) (ws : List ℕ) (gap : ℕ) (ins : List ℕ) (l : Library) (ls : List Library) (k : ℕ) (q : Loaded) → reads t ≡ some (l ∷ ls) → length ws < wide → find_def true l.defs (record { name = main_name; version = any_version }) ≡ some k → load (l ∷ ls) (RoomOf (length ws) gap) l.name true (blank ins).links ≡ some q → (s : State) × Starts t (length ws) gap ins (l ∷ ls) s × Opened (record { libs = l ∷ ls; memory = RoomOf (length ws) gap; begin = s }) nothing_loaded 0 (fresh ws ins) q (q.calls ++ (place_at 0 k ∷ [])) (finish 0)
+Begins = (t : List ℕ) (ws : List ℕ) (gap : ℕ) (ins : List ℕ) (l : Library) (ls : List Library) (k : ℕ) (q : Loaded) → reads t ≡ Some (l ∷ ls) → length ws < wide → find_def true l.defs (record { name = main_name; version = any_version }) ≡ Some k → load (l ∷ ls) (RoomOf (length ws) gap) l.name true (blank ins).links ≡ Some q → (s : State) × Starts t (length ws) gap ins (l ∷ ls) s × Opened (record { libs = l ∷ ls; memory = RoomOf (length ws) gap; begin = s }) nothing_loaded 0 (fresh ws ins) q (q.calls ++ (place_at 0 k ∷ [])) (finish 0)

@@ -1,7 +1,6 @@
 -- Where modules lie: places as addresses.
-use Rattle.std.specs.Prelude.{◌≡◌, ℕ, ◌+◌, ◌<◌, ◌≤◌, ◌⊎◌, List, length, ◌≢◌, slice_index}
-use Rattle.std.proofs.Math.Option.{some}
-use Rattle.base.specs.Lists.{nth, Each}
+use Rattle.std.specs.List.{AllByRecursion}
+use Rattle.std.specs.Prelude.{◌≡◌, ℕ, ◌+◌, ◌<◌, ◌≤◌, ◌⊎◌, List, length, ◌≢◌, slice_index, Some, slice_get}
 use Rattle.library.specs.Fine.{LibraryFine}
 use Rattle.links.specs.Links.{Place, Module}
 use Rattle.links.specs.Scope.{live_at}
@@ -31,8 +30,8 @@ pub record Placed (k : Layout) (total : ℕ) : Type 0 where
 
 -- live modules lie below the u words that are taken, and apart from each other, a word between
 pub record Apart (k : Layout) (ms : List Module) (u : ℕ) : Type 0 where
-  pub below : (i : ℕ) (x : Module) → live_at ms i ≡ some x → base_of k i + size_of k i < u
-  pub apart : (i j : ℕ) (x y : Module) → live_at ms i ≡ some x → live_at ms j ≡ some y → (i ≢ j) → (base_of k i + size_of k i < base_of k j) ⊎ (base_of k j + size_of k j < base_of k i)
+  pub below : (i : ℕ) (x : Module) → live_at ms i ≡ Some x → base_of k i + size_of k i < u
+  pub apart : (i j : ℕ) (x y : Module) → live_at ms i ≡ Some x → live_at ms j ≡ Some y → (i ≢ j) → (base_of k i + size_of k i < base_of k j) ⊎ (base_of k j + size_of k j < base_of k i)
 
 -- the layout of the modules, of which the live ones are apart; u words are taken, of total
 pub record Ground (k : Layout) (ms : List Module) (u total : ℕ) : Type 0 where
@@ -41,8 +40,8 @@ pub record Ground (k : Layout) (ms : List Module) (u total : ℕ) : Type 0 where
   pub one : 1 ≤ u
   pub room : u ≤ total
   pub count : length ms ≡ length k.bases
-  pub sized : (i : ℕ) (x : Module) → nth ms i ≡ some x → size_of k i ≡ length x.lib.cells
-  pub fine : (i : ℕ) (x : Module) → nth ms i ≡ some x → LibraryFine x.lib
+  pub sized : (i : ℕ) (x : Module) → slice_get ms i ≡ Some x → size_of k i ≡ length x.lib.cells
+  pub fine : (i : ℕ) (x : Module) → slice_get ms i ≡ Some x → LibraryFine x.lib
 
 -- a value as a word: a number itself, a place's address
 abbrev pub addr : Layout → Value → ℕ
@@ -77,4 +76,4 @@ FitsSequel k (stops n) = n < all
 -- a frame with such places and sequels
 abbrev pub FitsFrame : Layout → Frame → Type 0
 FitsFrame k (back p) = FitsPlace k p
-FitsFrame k (pending ps f) = Each (FitsPlace k) ps × FitsSequel k f
+FitsFrame k (pending ps f) = AllByRecursion (FitsPlace k) ps × FitsSequel k f

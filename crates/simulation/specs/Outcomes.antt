@@ -1,6 +1,5 @@
 -- What a run may answer, and how many steps of the meaning it has made.
-use Rattle.std.specs.Prelude.{◌≡◌, ℕ, ◌+◌, ◌≤◌, true, ◌⊎◌, List, [], ◌∷◌}
-use Rattle.std.proofs.Math.Option.{some, none}
+use Rattle.std.specs.Prelude.{◌≡◌, ℕ, ◌+◌, ◌≤◌, true, ◌⊎◌, List, [], ◌∷◌, None, Some}
 use Rattle.library.specs.Library.{Library, any_version, main_name}
 use Rattle.library.specs.Text.{reads}
 use Rattle.links.specs.Symbols.{find_def}
@@ -32,10 +31,10 @@ RunAnswers = (t : List ℕ) (words gap : ℕ) (ins : List ℕ) (steps lent : ℕ
 
 -- what a run may answer before the program has begun: there is no text, no library, no main, or the first library can't be loaded
 pub record Refusals (t : List ℕ) (words gap : ℕ) (ins : List ℕ) (steps lent : ℕ) : Type 0 where
-  pub no_text : reads t ≡ none → RunSays t words gap ins steps lent [] NoText
-  pub no_library : reads t ≡ some [] → RunSays t words gap ins steps lent [] NoStart
-  pub no_main : (l : Library) (ls : List Library) → reads t ≡ some (l ∷ ls) → find_def true l.defs (record { name = main_name; version = any_version }) ≡ none → RunSays t words gap ins steps lent [] NoStart
-  pub no_load : (l : Library) (ls : List Library) → reads t ≡ some (l ∷ ls) → load (l ∷ ls) (RoomOf words gap) l.name true (blank ins).links ≡ none → RunSays t words gap ins steps lent [] NoStart
+  pub no_text : reads t ≡ None → RunSays t words gap ins steps lent [] NoText
+  pub no_library : reads t ≡ Some [] → RunSays t words gap ins steps lent [] NoStart
+  pub no_main : (l : Library) (ls : List Library) → reads t ≡ Some (l ∷ ls) → find_def true l.defs (record { name = main_name; version = any_version }) ≡ None → RunSays t words gap ins steps lent [] NoStart
+  pub no_load : (l : Library) (ls : List Library) → reads t ≡ Some (l ∷ ls) → load (l ∷ ls) (RoomOf words gap) l.name true (blank ins).links ≡ None → RunSays t words gap ins steps lent [] NoStart
 
 -- these answers are right
 abbrev pub RunRefuses : Type 0

@@ -1,7 +1,6 @@
 -- When a state of the meaning and one of the processor stand for the same. Of the memory only the words of live modules count.
-use Rattle.std.specs.Prelude.{◌≡◌, ℕ, ◌+◌, ◌<◌, List, ◌++◌, map, length}
-use Rattle.std.proofs.Math.Option.{Option, some, none}
-use Rattle.base.specs.Lists.{nth, Each}
+use Rattle.std.specs.List.{AllByRecursion}
+use Rattle.std.specs.Prelude.{◌≡◌, ℕ, ◌+◌, ◌<◌, List, ◌++◌, map, length, None, Option, Some, slice_get}
 use Rattle.library.specs.Library.{Symbol, slot, Library, label_at}
 use Rattle.library.specs.Fine.{Fine, InCells}
 use Rattle.links.specs.Links.{Place, Module, Links}
@@ -14,28 +13,28 @@ use Rattle.simulation.specs.Layout.{Layout, base_of, size_of, Ground, addr, addr
 -- w is the word for what cell j of a module of z cells holds
 abbrev pub Holds : List Library → Layout → ℕ → ℕ → Held → ℕ → Type 0
 Holds ls k z j (val v) w = (w ≡ addr k v) × Fits k v
-Holds ls k z j (link y none) w = w ≡ 0
-Holds ls k z j (link y (some v)) w = (w ≡ addr k v) × Fits k v
-Holds ls k z j (label x) w = label_at ls w ≡ some x
+Holds ls k z j (link y None) w = w ≡ 0
+Holds ls k z j (link y (Some v)) w = (w ≡ addr k v) × Fits k v
+Holds ls k z j (label x) w = label_at ls w ≡ Some x
 Holds ls k z j (code o) w = (w ≡ encode o j) × Fine o × InCells o z
 
 -- the words from the base of the module i on are those of its cells
 pub record Kept (ls : List Library) (k : Layout) (ws : List ℕ) (i : ℕ) (x : Module) (hs : List Held) : Type 0 where
   pub sized : length hs ≡ size_of k i
-  pub slots : (j : ℕ) (y : Symbol) (o : Option Value) → nth hs j ≡ some (link y o) → nth x.lib.cells j ≡ some (slot y)
-  pub cell : (j : ℕ) (h : Held) → nth hs j ≡ some h → (w : ℕ) × (nth ws (base_of k i + j) ≡ some w) × Holds ls k (size_of k i) j h w
+  pub slots : (j : ℕ) (y : Symbol) (o : Option Value) → slice_get hs j ≡ Some (link y o) → slice_get x.lib.cells j ≡ Some (slot y)
+  pub cell : (j : ℕ) (h : Held) → slice_get hs j ≡ Some h → (w : ℕ) × (slice_get ws (base_of k i + j) ≡ Some w) × Holds ls k (size_of k i) j h w
 
 -- the memory: modules have their places in it, and live ones their words
 pub record Mem (ls : List Library) (k : Layout) (ks : Links) (css : List (List Held)) (ws : List ℕ) : Type 0 where
   pub ground : Ground k ks.modules ks.used (length ws)
   pub held : length css ≡ length ks.modules
   pub numbered : length ks.groups < ks.used
-  pub cells : (i : ℕ) (x : Module) (hs : List Held) → live_at ks.modules i ≡ some x → nth css i ≡ some hs → Kept ls k ws i x hs
+  pub cells : (i : ℕ) (x : Module) (hs : List Held) → live_at ks.modules i ≡ Some x → slice_get css i ≡ Some hs → Kept ls k ws i x hs
 
 -- values as words: of registers, and of what was pushed
 pub record Values (k : Layout) (vs : List Value) (ns : List ℕ) : Type 0 where
   pub are : ns ≡ map (addr k) vs
-  pub fit : Each (Fits k) vs
+  pub fit : AllByRecursion (Fits k) vs
 
 -- a place as an address
 pub record At (k : Layout) (p : Place) (n : ℕ) : Type 0 where
@@ -46,7 +45,7 @@ pub record At (k : Layout) (p : Place) (n : ℕ) : Type 0 where
 pub record Backs (k : Layout) (fs : List Frame) (ns : List ℕ) : Type 0 where
   pub rest : List ℕ
   pub are : ns ≡ map (addr_back k) fs ++ rest
-  pub fit : Each (FitsFrame k) fs
+  pub fit : AllByRecursion (FitsFrame k) fs
 
 -- the states stand for the same, and the processor is about to do the instruction that the meaning is at
 pub record Rel (ls : List Library) (k : Layout) (s : State) (c : Processor) : Type 0 where

@@ -1,6 +1,6 @@
 -- Pending calls as the loader keeps them, with addresses: the newest first.
+use Rattle.std.specs.List.{list_any}
 use Rattle.std.specs.Prelude.{ℕ, Bool, true, false, List, [], ◌∷◌}
-use Rattle.base.specs.Lists.{any_of}
 use Rattle.links.specs.Links.{Place}
 use Rattle.meaning.specs.State.{Sequel, gives, drops, ends, stops, Frame, back, pending}
 use Rattle.simulation.specs.Layout.{Layout, addr, addr_place}
@@ -43,4 +43,4 @@ is_discard (stop n) = false
 
 -- whether finis of a close are being called
 abbrev pub closing_rows : List Row → Bool
-closing_rows rs = any_of (λ r. is_discard r.after) rs
+closing_rows rs = list_any (λ r. is_discard r.after) rs

@@ -1,6 +1,5 @@
 -- What a run promises.
-use Rattle.std.specs.Prelude.{◌≡◌, ℕ, ◌+◌, ◌*◌, ◌<◌, ◌≤◌, ◌⊎◌, List, [], length, ◌≢◌}
-use Rattle.std.proofs.Math.Option.{some, none}
+use Rattle.std.specs.Prelude.{◌≡◌, ℕ, ◌+◌, ◌*◌, ◌<◌, ◌≤◌, ◌⊎◌, List, [], length, ◌≢◌, None, Some}
 use Rattle.library.specs.Library.{Library}
 use Rattle.library.specs.Text.{reads}
 use Rattle.links.specs.Links.{Room}
@@ -29,12 +28,12 @@ Made k a b Few = b ≤ a + k
 
 -- the text has the libraries ls, and with w words, gaps of g and these numbers to read the program begins in the state s
 abbrev pub Starts : List ℕ → ℕ → ℕ → List ℕ → List Library → State → Type 0
-Starts t w g ins ls s = (reads t ≡ some ls) × (begins ls (RoomOf w g) ins ≡ some s)
+Starts t w g ins ls s = (reads t ≡ Some ls) × (begins ls (RoomOf w g) ins ≡ Some s)
 
 -- what an answer says, where os was shown in at most so many steps of the processor, with l words lent
 abbrev pub RunSays : List ℕ → ℕ → ℕ → List ℕ → ℕ → ℕ → List ℕ → Outcome → Type 0
-RunSays t w g ins steps l os NoText = (reads t ≡ none) × (os ≡ [])
-RunSays t w g ins steps l os NoStart = (ls : List Library) × (reads t ≡ some ls) × (begins ls (RoomOf w g) ins ≡ none) × (os ≡ [])
+RunSays t w g ins steps l os NoText = (reads t ≡ None) × (os ≡ [])
+RunSays t w g ins steps l os NoStart = (ls : List Library) × (reads t ≡ Some ls) × (begins ls (RoomOf w g) ins ≡ None) × (os ≡ [])
 RunSays t w g ins steps l os (Ended v) = (ls : List Library) × (s : State) × Starts t w g ins ls s × (((n : ℕ) × (z : State) × (after ls (RoomOf w g) s n ≡ ended v z) × (z.outs ≡ os)) ⊎ Fell (after ls (RoomOf w g) s) os)
 RunSays t w g ins steps l os Lost = (ls : List Library) × (s : State) × Starts t w g ins ls s × (((n : ℕ) × (z : State) × (after ls (RoomOf w g) s n ≡ lost z) × (z.outs ≡ os)) ⊎ Fell (after ls (RoomOf w g) s) os)
 RunSays t w g ins steps l os Going = (ls : List Library) × (s : State) × Starts t w g ins ls s × (((n : ℕ) × (z : State) × (steps ≤ 2 + (n + n)) × (after ls (RoomOf w g) s n ≡ goes z) × (z.outs ≡ os)) ⊎ Fell (after ls (RoomOf w g) s) os)

@@ -1,6 +1,5 @@
 -- What a step of the processor is of the meaning.
-use Rattle.std.specs.Prelude.{◌≡◌, ℕ, ◌+◌, List, ◌∷◌}
-use Rattle.std.proofs.Math.Option.{some, none}
+use Rattle.std.specs.Prelude.{◌≡◌, ℕ, ◌+◌, List, ◌∷◌, None, Some}
 use Rattle.base.specs.Names.{Name}
 use Rattle.library.specs.Library.{Symbol, Instruction, Set, Get, Sto, Own, Add, Sub, Mul, Less, Same, Move, Jump, If0, Call, Callr, Ret, Push, Pop, Out, In, Open, Find, Close, End, Library, label_at}
 use Rattle.library.specs.Fine.{Fine}
@@ -16,7 +15,7 @@ use Rattle.simulation.specs.Rows.{pendings}
 -- a call through the own slot j, which isn't settled: the event has the slot's address
 pub record AsksBind (k : Layout) (s : State) (c : Processor) (j : ℕ) (d : Did) : Type 0 where
   pub symbol : Symbol
-  pub unsettled : steps.own s j ≡ some (link symbol none)
+  pub unsettled : steps.own s j ≡ Some (link symbol None)
   pub asks : d ≡ did c (Cpu.Bind (base_of k s.core.here.host + j))
 
 -- a return to pending calls: the processor comes to address 0
@@ -35,8 +34,8 @@ pub record AsksPending (k : Layout) (s : State) (c : Processor) (d : Did) : Type
 pub record AsksByName (ls : List Library) (s : State) (c : Processor) (j : ℕ) (event : ℕ → Event) (d : Did) : Type 0 where
   pub name : Name
   pub word : ℕ
-  pub holds : steps.own s j ≡ some (label name)
-  pub counted : label_at ls word ≡ some name
+  pub holds : steps.own s j ≡ Some (label name)
+  pub counted : label_at ls word ≡ Some name
   pub asks : d ≡ Cpu.asks c (event word)
 
 -- what a step comes to where it leaves the rest to the loader, by its instruction: the processor asks for what the meaning says
@@ -69,7 +68,7 @@ Asks ls k s c (End r) d = d ≡ Cpu.asks c (Cpu.End r)
 pub data Turn (k : Layout) (ls : List Library) (m : Room) (s : State) (c : Processor) : Type 0 where
   fell : (z : State) → steps.step ls m s ≡ wrong z → z.outs ≡ c.outs → Turn k ls m s c
   went : (t : State) → steps.step ls m s ≡ goes t → (Cpu.step c).event ≡ Continue → Rel ls k t (Cpu.step c).cpu → t.links ≡ s.links → pendings k t.core.frames ≡ pendings k s.core.frames → Turn k ls m s c
-  asked : (o : Instruction) → steps.own s s.core.here.cell ≡ some (code o) → steps.step ls m s ≡ steps.does ls m s o → Fine o → Asks ls k s c o (Cpu.step c) → Turn k ls m s c
+  asked : (o : Instruction) → steps.own s s.core.here.cell ≡ Some (code o) → steps.step ls m s ≡ steps.does ls m s o → Fine o → Asks ls k s c o (Cpu.step c) → Turn k ls m s c
 
 -- so it is of every step
 abbrev pub Turns : Type 0

@@ -1,10 +1,10 @@
 -- Drafts: an item more, one that begins, one that is done.
+use Rattle.std.specs.Prelude.{cond}
 use Rattle.std.proofs.Common.{◌≡◌, ℕ, ◌+◌, ◌-◌, ◌≤◌, Bool, true, false, ltb, leb, List, [], ◌∷◌, ◌++◌, length, Ok, Err, sym, refl, ap, ◌∙◌, subst, arith}
 use mir.Val.{bool_byte}
 use Rattle.std.proofs.lemmas.List.{length-drop, drop_all}
 use Rattle.std.proofs.lemmas.Slice.{between_to_end}
 use Rattle.std.proofs.lemmas.Bool.{le-ltb, le-leb, lt-leb}
-use Rattle.base.specs.Choices.{pick}
 use Rattle.text.specs.Readers.{bytes}
 use Rattle.text.specs.declared.reader.Span.{Span}
 use Rattle.library.specs.Library.{Library}
@@ -25,14 +25,14 @@ raised_draft : (s u : Store) (n : ℕ) (o : Draft) (i : Item) → library_from u
 unfolding library_from
 raised_draft s u n o i e = go (ltb o.top (item_reach i))
   where
-    go : (b : Bool) → draft_of u (pick b (record { name = o.name; inward = o.inward; needs = o.needs; defs = o.defs; inits = o.inits; finis = o.finis; cells = o.cells; top = item_reach i; line = n }) o) ≡ pick b (record { library = apply (library_from s o) i; top = item_reach i; top_line = n }) (record { library = apply (library_from s o) i; top = o.top; top_line = o.line })
+    go : (b : Bool) → draft_of u (cond b (record { name = o.name; inward = o.inward; needs = o.needs; defs = o.defs; inits = o.inits; finis = o.finis; cells = o.cells; top = item_reach i; line = n }) o) ≡ cond b (record { library = apply (library_from s o) i; top = item_reach i; top_line = n }) (record { library = apply (library_from s o) i; top = o.top; top_line = o.line })
     go true = ap (λ (l : Library). record { library = l; top = item_reach i; top_line = n }) e
     go false = ap (λ (l : Library). record { library = l; top = o.top; top_line = o.line }) e
 
 raised_starts : (s : Store) (n r : ℕ) (o : Draft) → Starts s o → Starts s (raise o n r)
 raised_starts s n r o h = go (ltb o.top r)
   where
-    go : (b : Bool) → Starts s (pick b (record { name = o.name; inward = o.inward; needs = o.needs; defs = o.defs; inits = o.inits; finis = o.finis; cells = o.cells; top = r; line = n }) o)
+    go : (b : Bool) → Starts s (cond b (record { name = o.name; inward = o.inward; needs = o.needs; defs = o.defs; inits = o.inits; finis = o.finis; cells = o.cells; top = r; line = n }) o)
     go true = record { needs = h.needs; defs = h.defs; inits = h.inits; finis = h.finis; cells = h.cells }
     go false = h
 
@@ -90,16 +90,16 @@ unfolding library_from
 cell_count s o n k e f = length-drop o.cells s.cells ∙ ap (λ m. m - o.cells) e ∙ sym f
 
 pub sized_ok : (s : Store) (o : Draft) (l n k : ℕ) → length s.cells ≡ n → k ≡ n - o.cells → k ≤ 65535 → sized l (draft_of s o) ≡ Ok (draft_of s o)
-sized_ok s o l n k e f h = ap (λ b. pick b (Ok (draft_of s o)) (Err (bad l TooManyCells))) (ap (λ m. leb m 65535) (cell_count s o n k e f) ∙ le-leb k 65535 h)
+sized_ok s o l n k e f h = ap (λ b. cond b (Ok (draft_of s o)) (Err (bad l TooManyCells))) (ap (λ m. leb m 65535) (cell_count s o n k e f) ∙ le-leb k 65535 h)
 
 pub sized_err : (s : Store) (o : Draft) (l n k : ℕ) → length s.cells ≡ n → k ≡ n - o.cells → 65535 + 1 ≤ k → sized l (draft_of s o) ≡ Err (bad l TooManyCells)
-sized_err s o l n k e f h = ap (λ b. pick b (Ok (draft_of s o)) (Err (bad l TooManyCells))) (ap (λ m. leb m 65535) (cell_count s o n k e f) ∙ lt-leb k 65535 (omega arith))
+sized_err s o l n k e f h = ap (λ b. cond b (Ok (draft_of s o)) (Err (bad l TooManyCells))) (ap (λ m. leb m 65535) (cell_count s o n k e f) ∙ lt-leb k 65535 (omega arith))
 
 pub checked_ok : (s : Store) (o : Draft) (n k : ℕ) → length s.cells ≡ n → k ≡ n - o.cells → o.top ≤ k → checked (draft_of s o) ≡ Ok (library_from s o)
-checked_ok s o n k e f h = ap (λ b. pick b (Ok (library_from s o)) (Err (bad o.line NoSuchCell))) (ap (leb o.top) (cell_count s o n k e f) ∙ le-leb o.top k h)
+checked_ok s o n k e f h = ap (λ b. cond b (Ok (library_from s o)) (Err (bad o.line NoSuchCell))) (ap (leb o.top) (cell_count s o n k e f) ∙ le-leb o.top k h)
 
 pub checked_err : (s : Store) (o : Draft) (n k : ℕ) → length s.cells ≡ n → k ≡ n - o.cells → k + 1 ≤ o.top → checked (draft_of s o) ≡ Err (bad o.line NoSuchCell)
-checked_err s o n k e f h = ap (λ b. pick b (Ok (library_from s o)) (Err (bad o.line NoSuchCell))) (ap (leb o.top) (cell_count s o n k e f) ∙ lt-leb o.top k (omega arith))
+checked_err s o n k e f h = ap (λ b. cond b (Ok (library_from s o)) (Err (bad o.line NoSuchCell))) (ap (leb o.top) (cell_count s o n k e f) ∙ lt-leb o.top k (omega arith))
 
 -- a library that begins
 abbrev pub fresh : Store → Span → Draft

@@ -1,6 +1,5 @@
 -- What the operations on the tables do.
-use Rattle.std.specs.Prelude.{◌≡◌, ℕ, ◌+◌, true, List, [], ◌∷◌, ◌++◌, nat_lt}
-use Rattle.base.specs.Choices.{pick}
+use Rattle.std.specs.Prelude.{◌≡◌, ℕ, ◌+◌, true, List, [], ◌∷◌, ◌++◌, nat_lt, cond}
 use Rattle.base.specs.Names.{Name}
 use Rattle.library.specs.Library.{Definition, Cell}
 use Rattle.library.specs.Lines.{Item}
@@ -32,7 +31,7 @@ pub record Took (t u : Tables) (i : Item) : Type 0 where
 
 -- a draft with a reach at line n
 abbrev pub raise : Draft → ℕ → ℕ → Draft
-raise o n r = pick (nat_lt o.top r) (record { name = o.name; inward = o.inward; needs = o.needs; defs = o.defs; inits = o.inits; finis = o.finis; cells = o.cells; top = r; line = n }) o
+raise o n r = cond (nat_lt o.top r) (record { name = o.name; inward = o.inward; needs = o.needs; defs = o.defs; inits = o.inits; finis = o.finis; cells = o.cells; top = r; line = n }) o
 
 -- a draft of a library that looks in itself first
 abbrev pub turn : Draft → Draft

@@ -1,11 +1,8 @@
 -- The libraries that tables stand for.
-use Rattle.std.specs.Prelude.{◌≡◌, ℕ, ◌+◌, ◌*◌, ◌≤◌, true, false, List, map, length, drop, Option, ◌==◌, slice_index, slice_index_or}
-use Rattle.std.proofs.Math.Option.{some, none}
-use Rattle.std.proofs.Math.Option as core
-use Rattle.std.specs.declared.option.Option.TheVariants as opt
+use Rattle.base.specs.Choices.{opt}
+use Rattle.std.specs.Prelude.{◌≡◌, ℕ, ◌+◌, ◌*◌, ◌≤◌, true, false, List, map, length, drop, Option, ◌==◌, slice_index, slice_index_or, None, Some, slice_get}
+use Rattle.std.specs.Option.{option_map}
 use Rattle.std.specs.List.{between, AllByRecursion}
-use Rattle.base.specs.Choices as choices
-use Rattle.base.specs.Lists.{nth}
 use Rattle.base.specs.Names.{Name, same}
 use Rattle.text.specs.Readers.{bytes}
 use Rattle.library.specs.Library.{Definition, Cell, Library}
@@ -48,9 +45,8 @@ abbrev pub draft_of : Store → Draft → reading.Draft
 draft_of s o = record { library = library_from s o; top = o.top; top_line = o.line }
 
 -- the same where one is being read
-abbrev pub drafts : Store → Option Draft → core.Option reading.Draft
-drafts s opt.None = none
-drafts s (opt.Some o) = some (draft_of s o)
+abbrev pub drafts : Store → Option Draft → Option reading.Draft
+drafts s o = option_map (draft_of s) o
 
 -- how far reading has come
 abbrev pub progress : Store → Option Draft → reading.Progress
@@ -82,8 +78,8 @@ pub record Starts (s : Store) (o : Draft) : Type 0 where
 
 -- the same where one is being read
 abbrev pub Begun : Store → Option Draft → Type 0
-Begun s opt.None = Unit {0}
-Begun s (opt.Some o) = Starts s o
+Begun s None = Unit {0}
+Begun s (Some o) = Starts s o
 
 -- rows lie within the words of each table
 pub record Fits (t : Tables) : Type 0 where
@@ -105,8 +101,8 @@ pub record Wide (t : Tables) : Type 0 where
 
 -- 1 where a library is being read
 abbrev pub opened : Option Draft → ℕ
-opened opt.None = 0
-opened (opt.Some o) = 1
+opened None = 0
+opened (Some o) = 1
 
 -- there is room for o libraries more, and for n rows more in each table
 pub record Room (t : Tables) (o n : ℕ) : Type 0 where
@@ -133,4 +129,4 @@ pub record Named (t : Tables) (x : Index) : Type 0 where
 
 -- library k has the name x
 abbrev pub HasName : List Library → ℕ → Name → Type 0
-HasName ls k x = choices.opt (nth ls k) false (λ l. same l.name x) ≡ true
+HasName ls k x = opt (slice_get ls k) false (λ l. same l.name x) ≡ true

@@ -1,5 +1,4 @@
-ghost use Rattle.std.specs.Prelude.{◌≡◌, true, Ok, Err, MatchResult};
-ghost use Rattle.base.specs.Choices.{pick};
+ghost use Rattle.std.specs.Prelude.{◌≡◌, true, Ok, Err, MatchResult, cond};
 ghost use Rattle.text.specs.Readers.{bytes};
 ghost use Rattle.library.specs.Text.{new_draft, checked, sized};
 ghost use Rattle.lines.specs.Items.{item_of};

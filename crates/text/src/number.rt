@@ -1,10 +1,9 @@
 ghost use Rattle.std.specs.Prelude.{◌≡◌, ◌<◌, IfSome};
-ghost use Rattle.base.specs.Choices.{found};
 ghost use Rattle.text.specs.Words.{below};
 
 // The decimal number that the word writes, where it is below the limit.
 pub fn number(word: &[u8], limit: u64) -> Option<u64>
-    ensures value { found result ≡ below limit word.now }
+    ensures value { result ≡ below limit word.now }
     ensures bound { IfSome result (λ n. n < limit) }
 {
     if word.len() == 0 {

@@ -1,5 +1,4 @@
-ghost use Rattle.std.specs.Prelude.{◌≡◌, ℕ, ◌+◌, ◌<◌, true, ◌&&◌, List, [], ◌∷◌, ◌++◌, length, replicate, nat_lt, slice_index, slice_set};
-ghost use Rattle.base.specs.Choices.{found, pick};
+ghost use Rattle.std.specs.Prelude.{◌≡◌, ℕ, ◌+◌, ◌<◌, true, ◌&&◌, List, [], ◌∷◌, ◌++◌, length, replicate, nat_lt, slice_index, slice_set, cond};
 ghost use Rattle.lent.specs.Indexes.{bucket_of, entry_of, Holds, IsNewest};
 
 use crate::index::Index;
@@ -21,7 +20,7 @@ pub fn bucket(name: &[u8], count: usize) -> usize
 
 // The entry that word i stands for.
 fn entry_at(words: &[u64], i: usize) -> Option<usize>
-    ensures { found result ≡ entry_of (slice_index words.now i) }
+    ensures { result ≡ entry_of (slice_index words.now i) }
 {
     let word = *words.get(i)?;
     (word as usize).checked_sub(1)
@@ -50,8 +49,8 @@ impl<'a> Index<'a> {
     // Entry n goes into bucket h as its newest; false where there is no such bucket or no room for the entry.
     pub fn insert(&mut self, n: usize, h: usize) -> bool
         ensures value { result ≡ (nat_lt h (length self.old.heads.now) && nat_lt n (length self.old.next.now)) }
-        ensures heads { self.new.heads.now ≡ pick result (slice_set self.old.heads.now h (n + 1)) self.old.heads.now }
-        ensures next { self.new.next.now ≡ pick result (slice_set self.old.next.now n (slice_index self.old.heads.now h)) self.old.next.now }
+        ensures heads { self.new.heads.now ≡ cond result (slice_set self.old.heads.now h (n + 1)) self.old.heads.now }
+        ensures next { self.new.next.now ≡ cond result (slice_set self.old.next.now n (slice_index self.old.heads.now h)) self.old.next.now }
         ensures indexed { result ≡ true → (bs : List ℕ) → slice_index bs n ≡ h → Holds self.old bs n → Holds self.new bs (n + 1) }
         ensures grown { result ≡ true → (bs : List ℕ) → length bs ≡ n → Holds self.old bs n → Holds self.new (bs ++ h ∷ []) (n + 1) }
     {
@@ -65,16 +64,16 @@ impl<'a> Index<'a> {
 
     // The newest entry of bucket h.
     pub fn first(&self, h: usize) -> Option<usize>
-        ensures value { found result ≡ entry_of (slice_index self.now.heads.now h) }
-        ensures newest { (bs : List ℕ) (n : ℕ) → Holds self.now bs n → h < length self.now.heads.now → IsNewest bs h n (found result) }
+        ensures value { result ≡ entry_of (slice_index self.now.heads.now h) }
+        ensures newest { (bs : List ℕ) (n : ℕ) → Holds self.now bs n → h < length self.now.heads.now → IsNewest bs h n result }
     {
         entry_at(self.heads, h)
     }
 
     // The next older entry in the bucket of entry k.
     pub fn older(&self, k: usize) -> Option<usize>
-        ensures value { found result ≡ entry_of (slice_index self.now.next.now k) }
-        ensures newest { (bs : List ℕ) (n h : ℕ) → Holds self.now bs n → k < n → slice_index bs k ≡ h → IsNewest bs h k (found result) }
+        ensures value { result ≡ entry_of (slice_index self.now.next.now k) }
+        ensures newest { (bs : List ℕ) (n h : ℕ) → Holds self.now bs n → k < n → slice_index bs k ≡ h → IsNewest bs h k result }
     {
         entry_at(self.next, k)
     }

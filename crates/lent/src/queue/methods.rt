@@ -1,5 +1,4 @@
-ghost use Rattle.std.specs.Prelude.{◌≡◌, ◌+◌, false, [], ◌∷◌, ◌++◌, length, MatchOption, ◌==◌, nat_lt};
-ghost use Rattle.base.specs.Choices.{pick};
+ghost use Rattle.std.specs.Prelude.{◌≡◌, ◌+◌, false, [], ◌∷◌, ◌++◌, length, MatchOption, ◌==◌, nat_lt, cond};
 ghost use Rattle.lent.specs.Queues.{items};
 
 use crate::queue::Queue;
@@ -21,8 +20,8 @@ impl<'a> Queue<'a> {
     // One more at the end; false where every word was used.
     pub fn push(&mut self, x: u64) -> bool
         ensures value { result ≡ nat_lt self.old.tail (length self.old.words.now) }
-        ensures items { items self.new ≡ pick result (items self.old ++ x ∷ []) (items self.old) }
-        ensures tail { self.new.tail ≡ pick result (self.old.tail + 1) self.old.tail }
+        ensures items { items self.new ≡ cond result (items self.old ++ x ∷ []) (items self.old) }
+        ensures tail { self.new.tail ≡ cond result (self.old.tail + 1) self.old.tail }
         ensures size { length self.new.words.now ≡ length self.old.words.now }
         ensures same { result ≡ false → self.new ≡ self.old }
     {

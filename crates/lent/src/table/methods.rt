@@ -1,6 +1,4 @@
-ghost use Rattle.std.specs.Prelude.{◌≡◌, ◌+◌, ◌*◌, ◌<◌, ◌≤◌, min, false, ◌⊎◌, [], ◌∷◌, ◌++◌, length, take, MatchOption, nat_le, nat_lt, slice_index, slice_index_or};
-ghost use Rattle.base.specs.Choices.{pick, found};
-ghost use Rattle.base.specs.Lists.{nth, put};
+ghost use Rattle.std.specs.Prelude.{◌≡◌, ◌+◌, ◌*◌, ◌<◌, ◌≤◌, min, false, ◌⊎◌, [], ◌∷◌, ◌++◌, length, take, MatchOption, nat_le, nat_lt, slice_index, slice_index_or, cond, slice_get, slice_set};
 ghost use Rattle.std.specs.Option.{option_map};
 ghost use Rattle.lent.specs.Tables.{Fits, rows_in};
 
@@ -21,8 +19,8 @@ impl<'a, const W: usize> Table<'a, W> {
         requires some { 0 < W }
         requires fits { Fits W self.old }
         ensures value { result ≡ nat_le (W * self.old.len + W) (length self.old.words.now) }
-        ensures rows { rows_in W self.new ≡ pick result (rows_in W self.old ++ row.now ∷ []) (rows_in W self.old) }
-        ensures len { self.new.len ≡ pick result (self.old.len + 1) self.old.len }
+        ensures rows { rows_in W self.new ≡ cond result (rows_in W self.old ++ row.now ∷ []) (rows_in W self.old) }
+        ensures len { self.new.len ≡ cond result (self.old.len + 1) self.old.len }
         ensures size { length self.new.words.now ≡ length self.old.words.now }
         ensures same { result ≡ false → self.new ≡ self.old }
         ensures fits { Fits W self.new }
@@ -47,7 +45,7 @@ impl<'a, const W: usize> Table<'a, W> {
     // Row i.
     pub fn row(&self, i: usize) -> Option<&[u64]>
         requires fits { Fits W self.now }
-        ensures value { found (option_map (λ x. x.now) result) ≡ nth (rows_in W self.now) i }
+        ensures value { (option_map (λ x. x.now) result) ≡ slice_get (rows_in W self.now) i }
         ensures size { MatchOption result (self.now.len ≤ i) (λ x. (i < self.now.len) × (length x.now ≡ W)) }
     {
         if i >= self.len {
@@ -61,7 +59,7 @@ impl<'a, const W: usize> Table<'a, W> {
     pub fn set(&mut self, i: usize, row: &[u64; W]) -> bool
         requires fits { Fits W self.old }
         ensures value { result ≡ nat_lt i self.old.len }
-        ensures rows { rows_in W self.new ≡ put (rows_in W self.old) i row.now }
+        ensures rows { rows_in W self.new ≡ slice_set (rows_in W self.old) i row.now }
         ensures len { self.new.len ≡ self.old.len }
         ensures size { length self.new.words.now ≡ length self.old.words.now }
         ensures same { result ≡ false → self.new ≡ self.old }

@@ -1,6 +1,6 @@
+use Rattle.std.specs.Option.{option_map}
+use Rattle.std.specs.Prelude.{None, Some}
 use Rattle.std.proofs.Common.{refl, ap, ◌∙◌}
-use mathlib.Core.Option.{some, none}
-use Rattle.base.specs.Choices.{found, over}
 use Rattle.library.specs.Views.{cell_of}
 use Rattle.library.specs.Library.{Library}
 use Rattle.lent.specs.Tables.{rows_in}
@@ -11,12 +11,12 @@ use Rattle.catalog.proofs.catalog.Catalog.cell.Goals as goal
 
 pub returns-in_err-k : goal.returns-in_err-k
 unfolding store library_at
-returns-in_err-k c = ap (λ r. over (cell_of (λ x. x.now)) (found r)) c.from_residual.ensures ∙ no_part (store c.args.self.now.parts.tables) c.args.id.0 11 c.args.j (λ (l : Library). l.cells) (store c.args.self.now.parts.tables).cells (λ r. refl) c.in_err-k.ensures
+returns-in_err-k c = ap (λ r. option_map (cell_of (λ x. x.now)) r) c.from_residual.ensures ∙ no_part (store c.args.self.now.parts.tables) c.args.id.0 11 c.args.j (λ (l : Library). l.cells) (store c.args.self.now.parts.tables).cells (λ r. refl) c.in_err-k.ensures
 
 pub returns-in_err-row : goal.returns-in_err-row
 unfolding store library_at
-returns-in_err-row c = ap (λ r. over (cell_of (λ x. x.now)) (found r)) c.from_residual-in_err-row.ensures ∙ the_part (store c.args.self.now.parts.tables) c.args.id.0 11 c.args.j c.in_ok-k.k (λ (l : Library). l.cells) (cell_at c.args.self.now.parts.tables.text.now) (rows_in 6 c.args.self.now.parts.tables.cells) none (λ r. refl) c.in_ok-k.ensures c.in_err-row.ensures.value
+returns-in_err-row c = ap (λ r. option_map (cell_of (λ x. x.now)) r) c.from_residual-in_err-row.ensures ∙ the_part (store c.args.self.now.parts.tables) c.args.id.0 11 c.args.j c.in_ok-k.k (λ (l : Library). l.cells) (cell_at c.args.self.now.parts.tables.text.now) (rows_in 6 c.args.self.now.parts.tables.cells) None (λ r. refl) c.in_ok-k.ensures c.in_err-row.ensures.value
 
 pub returns : goal.returns
 unfolding store library_at
-returns c = ap some (c.cell-2.ensures ∙ c.cell.ensures c.args.self.now.parts.tables.text.now) ∙ the_part (store c.args.self.now.parts.tables) c.args.id.0 11 c.args.j c.in_ok-k.k (λ (l : Library). l.cells) (cell_at c.args.self.now.parts.tables.text.now) (rows_in 6 c.args.self.now.parts.tables.cells) (some c.in_ok-row.row.now) (λ r. refl) c.in_ok-k.ensures c.in_ok-row.ensures.value
+returns c = ap Some (c.cell-2.ensures ∙ c.cell.ensures c.args.self.now.parts.tables.text.now) ∙ the_part (store c.args.self.now.parts.tables) c.args.id.0 11 c.args.j c.in_ok-k.k (λ (l : Library). l.cells) (cell_at c.args.self.now.parts.tables.text.now) (rows_in 6 c.args.self.now.parts.tables.cells) (Some c.in_ok-row.row.now) (λ r. refl) c.in_ok-k.ensures c.in_ok-row.ensures.value

@@ -1,6 +1,5 @@
+use Rattle.std.specs.Prelude.{Some}
 use Rattle.std.proofs.Common.{◌≡◌, ℕ, get_or, sym, ap, ◌∙◌}
-use mathlib.Core.Option.{some}
-use Rattle.base.specs.Choices.{found}
 use Rattle.rows.specs.Rows.{name_at, number_at, definition_at, cell_at}
 use Rattle.catalog.specs.declared.sizes.Sizes.{Sizes}
 use Rattle.tables.specs.Store.{store, library_at}
@@ -15,7 +14,7 @@ made a b c d e p q r s t f g h i j = cc
 
 pub returns-in_err-row : goal.returns-in_err-row
 unfolding store
-returns-in_err-row c = ap found c.from_residual.ensures ∙ no_row (store c.args.self.now.parts.tables) c.args.id.0 (λ l. some (sizes_of l)) c.in_err-row.ensures.value
+returns-in_err-row c = c.from_residual.ensures ∙ no_row (store c.args.self.now.parts.tables) c.args.id.0 (λ l. Some (sizes_of l)) c.in_err-row.ensures.value
 
 pub returns : goal.returns
 unfolding store library_at
@@ -27,4 +26,4 @@ returns c =
     let d = part_count (get_or r 7 0) (get_or r 8 0) _ (store t).inits (rows_count number_at 1 t.inits.words.now t.inits.len) in
     let e = part_count (get_or r 9 0) (get_or r 10 0) _ (store t).finis (rows_count number_at 1 t.finis.words.now t.finis.len) in
     let f = part_count (get_or r 11 0) (get_or r 12 0) _ (store t).cells (rows_count (cell_at t.text.now) 6 t.cells.words.now t.cells.len) in
-    ap some (made _ _ _ _ _ _ _ _ _ _ (c.count.ensures ∙ sym a) (c.count-2.ensures ∙ sym b) (c.count-3.ensures ∙ sym d) (c.count-4.ensures ∙ sym e) (c.count-5.ensures ∙ sym f)) ∙ row_is (store t) c.args.id.0 r (λ l. some (sizes_of l)) c.in_ok-row.ensures.value
+    ap Some (made _ _ _ _ _ _ _ _ _ _ (c.count.ensures ∙ sym a) (c.count-2.ensures ∙ sym b) (c.count-3.ensures ∙ sym d) (c.count-4.ensures ∙ sym e) (c.count-5.ensures ∙ sym f)) ∙ row_is (store t) c.args.id.0 r (λ l. Some (sizes_of l)) c.in_ok-row.ensures.value

@@ -1,5 +1,5 @@
+use Rattle.std.specs.Prelude.{slice_set}
 use Rattle.std.proofs.Common.{◌≡◌, ◌+◌, ◌-◌, ◌*◌, ◌≤◌, length, sym, refl, ap, ◌∙◌, arith}
-use Rattle.base.specs.Lists.{put}
 use Rattle.lent.proofs.Rows.{row_end, rows_put, rows_put_past, words_len}
 use Rattle.lent.proofs.table.Table.set.Goals as goal
 use Rattle.lent.specs.Tables.{rows_of}
@@ -40,7 +40,7 @@ returns g c =
     let size = words_len w i (w * i + w - w * i) ws x room l (omega arith) in
     record {
       value = sym (lt-ltb _ _ (omega arith));
-      rows = rows_put w ws x n i (w * i + w - w * i) (omega arith) (omega arith) l (omega arith) ∙ ap (put (rows_of w ws n) i) c.copy_from_slice.ensures.after;
+      rows = rows_put w ws x n i (w * i + w - w * i) (omega arith) (omega arith) l (omega arith) ∙ ap (slice_set (rows_of w ws n) i) c.copy_from_slice.ensures.after;
       len = refl;
       size = size;
       same = λ e. cc;

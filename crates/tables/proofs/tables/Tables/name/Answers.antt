@@ -1,7 +1,6 @@
+use Rattle.std.specs.Prelude.{Some}
 use Rattle.std.proofs.Common.{ap, ◌∙◌}
-use mathlib.Core.Option.{some}
 use Rattle.std.specs.Option.{option_map}
-use Rattle.base.specs.Choices.{found}
 use Rattle.library.specs.Library.{Library}
 use Rattle.tables.specs.Store.{store, library_at}
 use Rattle.tables.proofs.Looking.{no_row, row_is}
@@ -9,8 +8,8 @@ use Rattle.tables.proofs.tables.Tables.name.Goals as goal
 
 pub returns-in_err-row : goal.returns-in_err-row
 unfolding store
-returns-in_err-row c = ap (λ r. found (option_map (λ x. x.now) r)) c.from_residual.ensures ∙ no_row (store c.args.self.now) c.args.i (λ (l : Library). some l.name) c.in_err-row.ensures.value
+returns-in_err-row c = ap (λ r. (option_map (λ x. x.now) r)) c.from_residual.ensures ∙ no_row (store c.args.self.now) c.args.i (λ (l : Library). Some l.name) c.in_err-row.ensures.value
 
 pub returns : goal.returns
 unfolding store library_at
-returns c = ap some (c.slice.ensures ∙ c.name.ensures c.args.self.now.text.now) ∙ row_is (store c.args.self.now) c.args.i c.in_ok-row.row.now (λ (l : Library). some l.name) c.in_ok-row.ensures.value
+returns c = ap Some (c.slice.ensures ∙ c.name.ensures c.args.self.now.text.now) ∙ row_is (store c.args.self.now) c.args.i c.in_ok-row.row.now (λ (l : Library). Some l.name) c.in_ok-row.ensures.value
