@@ -7,11 +7,11 @@ use Rattle.base.specs.Choices.{opt, on_some, guard, WhereSome, on_ok, WhereOk}
 pub some_is : {A : Type 0} {a b : A} → Some a ≡ Some b → a ≡ b
 some_is e = cc
 
-pub pick_true : {A : Type 0} (b : Bool) (x y : A) → b ≡ true → cond b x y ≡ x
-pick_true b x y e = rw e
+pub cond_true : {A : Type 0} (b : Bool) (x y : A) → b ≡ true → cond b x y ≡ x
+cond_true b x y e = rw e
 
-pub pick_false : {A : Type 0} (b : Bool) (x y : A) → b ≡ false → cond b x y ≡ y
-pick_false b x y e = rw e
+pub cond_false : {A : Type 0} (b : Bool) (x y : A) → b ≡ false → cond b x y ≡ y
+cond_false b x y e = rw e
 
 pub opt_none : {A C : Type 0} (o : Option A) (c : C) (f : A → C) → o ≡ None → opt o c f ≡ c
 opt_none o c f e = rw e
@@ -32,9 +32,9 @@ pub none_not_some : {A : Type 0} {a : A} → None ≡ Some a → ⊥
 none_not_some e = let z : ◌≡◌ {A = ℕ} 0 1 = cc in omega arith
 
 -- a statement of the value, one choice after the other
-pub pick_if : {A : Type 0} (P : A → Type 0) (b : Bool) (o p : Option A) → WhereSome P o → WhereSome P p → WhereSome P (cond b o p)
-pick_if P true o p x y = x
-pick_if P false o p x y = y
+pub cond_if : {A : Type 0} (P : A → Type 0) (b : Bool) (o p : Option A) → WhereSome P o → WhereSome P p → WhereSome P (cond b o p)
+cond_if P true o p x y = x
+cond_if P false o p x y = y
 
 pub some_if : {A C : Type 0} (P : C → Type 0) (o : Option A) (f : A → Option C) → ((a : A) → o ≡ Some a → WhereSome P (f a)) → WhereSome P (on_some o f)
 some_if P None f h = tt
@@ -45,9 +45,9 @@ guard_if P true o h = h refl
 guard_if P false o h = tt
 
 -- the same for results
-pub pick_ok : {A E : Type 0} (P : A → Type 0) (b : Bool) (r q : Result A E) → WhereOk P r → WhereOk P q → WhereOk P (cond b r q)
-pick_ok P true r q x y = x
-pick_ok P false r q x y = y
+pub cond_ok : {A E : Type 0} (P : A → Type 0) (b : Bool) (r q : Result A E) → WhereOk P r → WhereOk P q → WhereOk P (cond b r q)
+cond_ok P true r q x y = x
+cond_ok P false r q x y = y
 
 pub on_ok_if : {A C E : Type 0} (P : C → Type 0) (r : Result A E) (f : A → Result C E) → ((a : A) → r ≡ Ok a → WhereOk P (f a)) → WhereOk P (on_ok r f)
 on_ok_if P (Ok a) f h = h a refl

@@ -1,6 +1,7 @@
 -- Names: runs of bytes.
+use Rattle.std.specs.Prelude.{◌≡◌, ℕ, Bool, false, List, [], ◌∷◌, nat_eq}
 use Rattle.std.specs.List.{list_any, AllByRecursion}
-use Rattle.std.specs.Prelude.{◌≡◌, ℕ, Bool, true, false, ◌&&◌, List, [], ◌∷◌, ◌==◌}
+use lib.Pointwise.{pointwise}
 
 -- the bytes of a name
 abbrev pub Name : Type 0
@@ -8,10 +9,7 @@ Name = List ℕ
 
 -- whether two names have the same bytes
 abbrev pub same : Name → Name → Bool
-same [] [] = true
-same [] (y ∷ ys) = false
-same (x ∷ xs) [] = false
-same (x ∷ xs) (y ∷ ys) = x == y && same xs ys
+same = pointwise nat_eq
 
 -- whether the name is in the list
 abbrev pub among : Name → List Name → Bool

@@ -1,8 +1,8 @@
 -- Rows of a fixed width: how many there are, one read, one written, one more.
+use Rattle.std.proofs.lemmas.Option.{slice_get-get_or}
 use Rattle.std.specs.Prelude.{None, Some, slice_get, slice_set}
 use borrow.Rule.Slice.PartMut.{put_mid}
 use Rattle.std.proofs.Common.{◌≡◌, ℕ, zero, suc, ◌+◌, ◌-◌, ◌*◌, ◌<◌, ◌≤◌, min, ◌≢◌, List, [], ◌∷◌, ◌++◌, length, get_or, take, drop, set, sym, refl, ap, ◌∙◌, ⊎_elim, mul-le-mul_left, mul-one, mul-add, arith}
-use Rattle.base.proofs.Lists.{put-set, get_or-nth}
 use Rattle.lent.specs.Tables.{row_at, rows_of}
 use Rattle.std.proofs.lemmas.List.FromFn.{length-map-range_with_len, get_or-map-range_with_len, take-map-range_with_len, map-range_with_len_more, fill_by_all}
 use Rattle.std.proofs.lemmas.List.Edits.{length-between}
@@ -27,8 +27,8 @@ pub rows_get : (w : ℕ) (ws : List ℕ) (n i : ℕ) → i < n → get_or (rows_
 unfolding rows_of
 rows_get w ws n i h = get_or-map-range_with_len (row_at w ws) 0 n i i [] h (omega arith)
 
-pub rows_nth : (w : ℕ) (ws : List ℕ) (n i : ℕ) → i < n → slice_get (rows_of w ws n) i ≡ Some (row_at w ws i)
-rows_nth w ws n i h = let l = rows_len w ws n in get_or-nth (rows_of w ws n) i [] (omega arith) ∙ ap Some (rows_get w ws n i h)
+pub rows_slice_get : (w : ℕ) (ws : List ℕ) (n i : ℕ) → i < n → slice_get (rows_of w ws n) i ≡ Some (row_at w ws i)
+rows_slice_get w ws n i h = let l = rows_len w ws n in slice_get-get_or (rows_of w ws n) i [] (omega arith) ∙ ap Some (rows_get w ws n i h)
 
 pub rows_past : (w : ℕ) (ws : List ℕ) (n i : ℕ) → n ≤ i → slice_get (rows_of w ws n) i ≡ None
 rows_past w ws n i h = let l = rows_len w ws n in past (rows_of w ws n) i (omega arith)
@@ -78,10 +78,10 @@ rows_put w ws x n i k b h l e =
     (λ (q : j ≡ i). ap (λ z. get_or (set rs i x) z []) q ∙ get_or-set_same rs i x [] (omega arith) ∙ sym (row_same w ws x i k h l) ∙ ap (row_at w v) (sym q))
     (λ (q : j ≡ i → ⊥). get_or-set_other rs i j x [] q ∙ rows_get w ws n j c ∙ sym (row_other w ws x i k j h l e q))
     (cases_eq j i) in
-    sym (fill_by_all (row_at w v) (set rs i x) n [] (length-set rs i x ∙ m) at) ∙ sym (put-set rs i x)
+    sym (fill_by_all (row_at w v) (set rs i x) n [] (length-set rs i x ∙ m) at)
 
 pub rows_put_past : (w : ℕ) (ws x : List ℕ) (n i : ℕ) → n ≤ i → slice_set (rows_of w ws n) i x ≡ rows_of w ws n
-rows_put_past w ws x n i h = let l = rows_len w ws n in put-set (rows_of w ws n) i x ∙ set_past (rows_of w ws n) i x (omega arith)
+rows_put_past w ws x n i h = let l = rows_len w ws n in set_past (rows_of w ws n) i x (omega arith)
 
 pub rows_take : (w : ℕ) (ws : List ℕ) (n m : ℕ) → rows_of w ws (min n m) ≡ take m (rows_of w ws n)
 unfolding rows_of

@@ -3,7 +3,7 @@ use Rattle.std.specs.Prelude.{None, Option, Some}
 use Rattle.std.proofs.Common.{◌≡◌, ℕ, ◌<◌, Bool, true, false, ltb, List, [], ◌∷◌, Ok, Err, refl, subst, arith}
 use Rattle.base.specs.Choices.{opt, on_some, guard, on_ok, WhereOk}
 use Rattle.base.specs.Names.{Name, same}
-use Rattle.base.proofs.Choices.{pick_ok, on_ok_if}
+use Rattle.base.proofs.Choices.{cond_ok, on_ok_if}
 use Rattle.text.specs.Words.{digits, below}
 use Rattle.library.specs.Library.{Instruction, Cell}
 use Rattle.library.specs.Keywords.{k_all, k_inner, k_must, k_may, k_word, k_ref, k_at, k_slot, k_name, k_inward, k_needs, k_def, k_init, k_fini}
@@ -111,11 +111,11 @@ CellOwn c = CellFine (cell_reach c) c
 
 cell_line_fine : (w : Name) (ws : List Name) → WhereOk CellOwn (cell_line w ws)
 cell_line_fine w ws =
-    pick_ok CellOwn (same w k_word) _ _ (num_all CellOwn ws _ (λ a us p. end_all CellOwn _ us p))
-    (pick_ok CellOwn (same w k_ref) _ _ (then_all CellOwn a_word ws _ (λ t x us e. then_all CellOwn a_word us _ (λ t v vs e. num_all CellOwn vs _ (λ n xs p. then_all CellOwn (either k_must k_may) xs _ (λ t b ys e. end_all CellOwn _ ys p)))))
-    (pick_ok CellOwn (same w k_at) _ _ (cell_all CellOwn ws _ (λ a us p. end_all CellOwn _ us (omega arith)))
-    (pick_ok CellOwn (same w k_slot) _ _ (then_all CellOwn a_word ws _ (λ t x us e. then_all CellOwn a_word us _ (λ t v vs e. end_all CellOwn _ vs tt)))
-    (pick_ok CellOwn (same w k_name) _ _ (then_all CellOwn a_word ws _ (λ t x us e. end_all CellOwn _ us tt))
+    cond_ok CellOwn (same w k_word) _ _ (num_all CellOwn ws _ (λ a us p. end_all CellOwn _ us p))
+    (cond_ok CellOwn (same w k_ref) _ _ (then_all CellOwn a_word ws _ (λ t x us e. then_all CellOwn a_word us _ (λ t v vs e. num_all CellOwn vs _ (λ n xs p. then_all CellOwn (either k_must k_may) xs _ (λ t b ys e. end_all CellOwn _ ys p)))))
+    (cond_ok CellOwn (same w k_at) _ _ (cell_all CellOwn ws _ (λ a us p. end_all CellOwn _ us (omega arith)))
+    (cond_ok CellOwn (same w k_slot) _ _ (then_all CellOwn a_word ws _ (λ t x us e. then_all CellOwn a_word us _ (λ t v vs e. end_all CellOwn _ vs tt)))
+    (cond_ok CellOwn (same w k_name) _ _ (then_all CellOwn a_word ws _ (λ t x us e. end_all CellOwn _ us tt))
     (on_ok_if CellOwn (instruction_line w ws) _ (λ o e. (subst (WhereOk Fine) e (instruction_fine w ws), omega arith)))))))
 
 -- what a line says, where there are z cells
@@ -135,9 +135,9 @@ call_fine f ws h = cell_all ItemOwn ws _ (λ k us p. end_all ItemOwn _ us (h k))
 
 pub item_line_fine : (w : Name) (ws : List Name) → WhereOk ItemOwn (item_line w ws)
 item_line_fine w ws =
-    pick_ok ItemOwn (same w k_inward) _ _ (end_all ItemOwn _ ws tt)
-    (pick_ok ItemOwn (same w k_needs) _ _ (then_all ItemOwn a_word ws _ (λ t x us e. end_all ItemOwn _ us tt))
-    (pick_ok ItemOwn (same w k_def) _ _ (then_all ItemOwn a_word ws _ (λ t x us e. then_all ItemOwn a_word us _ (λ t v vs e. cell_all ItemOwn vs _ (λ k xs p. then_all ItemOwn (either k_inner k_all) xs _ (λ t b ys e. end_all ItemOwn _ ys (omega arith))))))
-    (pick_ok ItemOwn (same w k_init) _ _ (call_fine init ws (λ k. omega arith))
-    (pick_ok ItemOwn (same w k_fini) _ _ (call_fine fini ws (λ k. omega arith))
+    cond_ok ItemOwn (same w k_inward) _ _ (end_all ItemOwn _ ws tt)
+    (cond_ok ItemOwn (same w k_needs) _ _ (then_all ItemOwn a_word ws _ (λ t x us e. end_all ItemOwn _ us tt))
+    (cond_ok ItemOwn (same w k_def) _ _ (then_all ItemOwn a_word ws _ (λ t x us e. then_all ItemOwn a_word us _ (λ t v vs e. cell_all ItemOwn vs _ (λ k xs p. then_all ItemOwn (either k_inner k_all) xs _ (λ t b ys e. end_all ItemOwn _ ys (omega arith))))))
+    (cond_ok ItemOwn (same w k_init) _ _ (call_fine init ws (λ k. omega arith))
+    (cond_ok ItemOwn (same w k_fini) _ _ (call_fine fini ws (λ k. omega arith))
     (on_ok_if ItemOwn (cell_line w ws) _ (λ c e. subst (WhereOk CellOwn) e (cell_line_fine w ws)))))))

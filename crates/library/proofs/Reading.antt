@@ -1,11 +1,12 @@
 -- Registers, numbers and cells of the libraries that a text gives are in range.
+use Rattle.std.proofs.ByRecursion.{All-push}
 use Rattle.std.specs.List.{AllByRecursion}
 use Rattle.std.specs.Prelude.{None, Option, Some, cond}
 use Rattle.std.proofs.Common.{◌≡◌, ℕ, suc, ◌<◌, ◌≤◌, Bool, true, false, eqb, ltb, leb, List, [], ◌∷◌, ◌++◌, map, length, Ok, Err, refl, subst, arith}
 use Rattle.base.specs.Choices.{opt, on_ok, WhereSome, WhereOk}
 use Rattle.base.specs.Names.{Name, same}
-use Rattle.base.proofs.Choices.{pick_ok, on_ok_if, ok_part_inv}
-use Rattle.base.proofs.Lists.{each_push, each_like}
+use Rattle.base.proofs.Choices.{cond_ok, on_ok_if, ok_part_inv}
+use Rattle.base.proofs.Lists.{all_like}
 use Rattle.text.specs.Words.{lines_of, words_of}
 use Rattle.library.specs.Library.{Cell, number, ref, at, slot, named, instruction, Library}
 use Rattle.library.specs.Keywords.{k_lib}
@@ -40,15 +41,15 @@ item_more y z h (fini k) p = omega arith
 item_more y z h (cell c) p = cell_more y z h c p
 
 under_more : (y z : ℕ) (l : Library) → y ≤ z → Under y l → Under z l
-under_more y z l h u = record { cells = each_like _ _ l.cells (cell_more y z h) u.cells; defs = each_like _ _ l.defs (λ d p. omega arith) u.defs; inits = each_like _ _ l.inits (λ k p. omega arith) u.inits; finis = each_like _ _ l.finis (λ k p. omega arith) u.finis }
+under_more y z l h u = record { cells = all_like _ _ l.cells (cell_more y z h) u.cells; defs = all_like _ _ l.defs (λ d p. omega arith) u.defs; inits = all_like _ _ l.inits (λ k p. omega arith) u.inits; finis = all_like _ _ l.finis (λ k p. omega arith) u.finis }
 
 under_apply : (z : ℕ) (l : Library) (i : Item) → Under z l → ItemFine z i → Under z (apply l i)
 under_apply z l inward u p = record { cells = u.cells; defs = u.defs; inits = u.inits; finis = u.finis }
 under_apply z l (needs x) u p = record { cells = u.cells; defs = u.defs; inits = u.inits; finis = u.finis }
-under_apply z l (define d) u p = record { cells = u.cells; defs = each_push _ l.defs d u.defs p; inits = u.inits; finis = u.finis }
-under_apply z l (init k) u p = record { cells = u.cells; defs = u.defs; inits = each_push _ l.inits k u.inits p; finis = u.finis }
-under_apply z l (fini k) u p = record { cells = u.cells; defs = u.defs; inits = u.inits; finis = each_push _ l.finis k u.finis p }
-under_apply z l (cell c) u p = record { cells = each_push _ l.cells c u.cells p; defs = u.defs; inits = u.inits; finis = u.finis }
+under_apply z l (define d) u p = record { cells = u.cells; defs = All-push _ l.defs d u.defs p; inits = u.inits; finis = u.finis }
+under_apply z l (init k) u p = record { cells = u.cells; defs = u.defs; inits = All-push _ l.inits k u.inits p; finis = u.finis }
+under_apply z l (fini k) u p = record { cells = u.cells; defs = u.defs; inits = u.inits; finis = All-push _ l.finis k u.finis p }
+under_apply z l (cell c) u p = record { cells = All-push _ l.cells c u.cells p; defs = u.defs; inits = u.inits; finis = u.finis }
 
 -- a draft whose lines name cells below its top
 abbrev Named : Draft → Type 0
@@ -82,7 +83,7 @@ finished_fine p f = go p.draft f.draft
   where
     go : (o : Option Draft) → WhereSome DraftFine o → WhereOk (AllByRecursion LibraryFine) (opt o (Ok p.done) (λ d. on_ok (checked d) (λ l. Ok (p.done ++ (l ∷ [])))))
     go None g = f.done
-    go (Some d) g = on_ok_if (AllByRecursion LibraryFine) (checked d) _ (λ l e. each_push LibraryFine p.done l f.done (subst (WhereOk LibraryFine) e (checked_fine d g)))
+    go (Some d) g = on_ok_if (AllByRecursion LibraryFine) (checked d) _ (λ l e. All-push LibraryFine p.done l f.done (subst (WhereOk LibraryFine) e (checked_fine d g)))
 
 sized_fine : (n : ℕ) (d : Draft) → Named d → WhereOk DraftFine (sized n d)
 sized_fine n d u = go (leb (length d.library.cells) 65535) refl
@@ -110,7 +111,7 @@ lib_fine n p ws f =
 line_fine : (n : ℕ) (p : Progress) (ws : List Name) → ProgressFine p → WhereOk ProgressFine (line n p ws)
 line_fine n p [] f = f
 line_fine n p ([] ∷ ws) f = f
-line_fine n p ((c ∷ cs) ∷ ws) f = pick_ok ProgressFine (eqb c 35) _ _ f (pick_ok ProgressFine (same (c ∷ cs) k_lib) _ _ (lib_fine n p ws f) (go p.draft f.draft))
+line_fine n p ((c ∷ cs) ∷ ws) f = cond_ok ProgressFine (eqb c 35) _ _ f (cond_ok ProgressFine (same (c ∷ cs) k_lib) _ _ (lib_fine n p ws f) (go p.draft f.draft))
   where
     go : (o : Option Draft) → WhereSome DraftFine o → WhereOk ProgressFine (opt o (Err (bad n OutsideLibrary)) (λ d. library_item n p d (c ∷ cs) ws))
     go None g = tt

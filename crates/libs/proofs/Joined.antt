@@ -4,7 +4,7 @@ use Rattle.std.proofs.Common.{◌≡◌, ℕ, suc, ◌+◌, ◌-◌, ◌<◌, �
 use Rattle.std.proofs.lemmas.Bool.{leb-true, leb-false}
 use Rattle.base.specs.Choices.{on_some}
 use Rattle.base.specs.Names.{Name}
-use Rattle.base.proofs.Lists.{nth_is, nth_left, nth_right}
+use Rattle.base.proofs.Lists.{slice_get_is, slice_get_left, slice_get_right}
 use Rattle.text.specs.Words.{cut, lines_of}
 use Rattle.libs.specs.Places.{joined, line_counts, place, SameLine}
 use Rattle.libs.specs.declared.sources.Place.{Place}
@@ -24,8 +24,8 @@ Stands ts f n p = (f ≤ p.file) × (slice_get (lines_of (joined ts)) n ≡ on_s
 first : (t : Name) (ts : List Name) (f n : ℕ) → n < length (lines_of t) → Stands (t ∷ ts) f n (record { file = f; line = suc n })
 unfolding Stands
 first t ts f n h =
-    let here = nth_is (lines_of t) n h in
-    let both = ap (λ ls. slice_get ls n) (cut_join [] t (joined ts)) ∙ nth_left (lines_of t) (lines_of (joined ts)) n here.0 here.1 ∙ sym here.1 in
+    let here = slice_get_is (lines_of t) n h in
+    let both = ap (λ ls. slice_get ls n) (cut_join [] t (joined ts)) ∙ slice_get_left (lines_of t) (lines_of (joined ts)) n here.0 here.1 ∙ sym here.1 in
     let zero_th : f - f ≡ 0 = omega arith in
     let line : suc n - 1 ≡ n = omega arith in
     (omega arith, both ∙ sym (ap (λ k. on_some (slice_get (t ∷ ts) k) (λ u. slice_get (lines_of u) (suc n - 1))) zero_th ∙ ap (λ k. slice_get (lines_of t) k) line))
@@ -37,7 +37,7 @@ later t ts f n p h s =
     let far : f + 1 ≤ p.file = s.0 in
     let sum : n ≡ length (lines_of t) + (n - length (lines_of t)) = omega arith in
     let next : p.file - f ≡ suc (p.file - (f + 1)) = omega arith in
-    let both = ap (λ ls. slice_get ls n) (cut_join [] t (joined ts)) ∙ ap (λ k. slice_get (lines_of t ++ lines_of (joined ts)) k) sum ∙ nth_right (lines_of t) (lines_of (joined ts)) (n - length (lines_of t)) in
+    let both = ap (λ ls. slice_get ls n) (cut_join [] t (joined ts)) ∙ ap (λ k. slice_get (lines_of t ++ lines_of (joined ts)) k) sum ∙ slice_get_right (lines_of t) (lines_of (joined ts)) (n - length (lines_of t)) in
     (omega arith, both ∙ s.1 ∙ sym (ap (λ k. on_some (slice_get (t ∷ ts) k) (λ u. slice_get (lines_of u) (p.line - 1))) next))
 
 stands : (ts : List Name) (f n : ℕ) (p : Place) → place f (line_counts ts) (suc n) ≡ Some p → Stands ts f n p

@@ -1,11 +1,11 @@
 -- Names are looked up by libraries, lives and groups alone.
+use Rattle.std.proofs.lemmas.Option.{slice_get-map}
 use Rattle.std.specs.List.{AllByRecursion}
 use Rattle.std.specs.Option.{option_map}
 use Rattle.std.specs.Prelude.{None, Option, Some, cond, slice_get, slice_set}
 use Rattle.std.proofs.Common.{◌≡◌, ℕ, zero, suc, ◌<◌, Bool, true, false, eqb, List, [], ◌∷◌, ◌++◌, map, sym, refl, ap, ◌∙◌, arith}
 use Rattle.base.specs.Choices.{opt, on_some, guard}
 use Rattle.base.proofs.Choices.{some_is}
-use Rattle.base.proofs.Lists.{nth-map}
 use Rattle.library.specs.Library.{Symbol, Definition}
 use Rattle.links.specs.Symbols.{matches, find_def}
 use Rattle.links.specs.Links.{Place, place_at, Module, Group, Key, key, Links, with_modules}
@@ -28,7 +28,7 @@ found_is is me y j = go (slice_get is j)
     go (Some x) = live_go x x.live
 
 pub over_key : (is is' : List Module) → map key is ≡ map key is' → (j : ℕ) → option_map key (slice_get is j) ≡ option_map key (slice_get is' j)
-over_key is is' e j = sym (nth-map key is j) ∙ ap (λ z. slice_get z j) e ∙ nth-map key is' j
+over_key is is' e j = sym (slice_get-map key is j) ∙ ap (λ z. slice_get z j) e ∙ slice_get-map key is' j
 
 pub look_same : (is is' : List Module) → map key is ≡ map key is' → (me : ℕ) (y : Symbol) (js : List ℕ) → lookup is me y js ≡ lookup is' me y js
 look_same is is' e me y [] = refl

@@ -1,4 +1,6 @@
 -- Numbers of modules that are kept stay those of modules, and each cell has one binding.
+use Rattle.std.proofs.ByRecursion.{All-push}
+use Rattle.std.proofs.lemmas.Option.{slice_get_within}
 use Rattle.std.specs.List.{AllByRecursion}
 use Rattle.std.specs.Prelude.{None, Option, Some, cond, filter, slice_get, slice_set}
 use Rattle.std.proofs.Common.{◌≡◌, ℕ, zero, suc, ◌+◌, ◌<◌, ◌≤◌, Bool, true, false, ◌&&◌, eqb, leb, List, [], ◌∷◌, ◌++◌, map, length, sym, refl, ◌∙◌, subst, ⊎_elim, arith}
@@ -6,7 +8,7 @@ use Rattle.base.specs.Choices.{opt, on_some}
 use Rattle.base.specs.Lists.{has}
 use Rattle.base.specs.Names.{Name, same}
 use Rattle.base.proofs.Choices.{some_is, on_some_inv, guard_inv}
-use Rattle.base.proofs.Lists.{length-put, nth_lt, each_nth, each_put, each_append, each_push, each_like}
+use Rattle.base.proofs.Lists.{all_slice_get, all_set, all_append, all_like}
 use Rattle.library.specs.Library.{Symbol, Cell, number, ref, at, slot, named, instruction, Library, find_library}
 use Rattle.links.specs.Closure.{init_order}
 use Rattle.links.specs.Links.{Place, Module, Group, Links, Room}
@@ -17,7 +19,7 @@ use Rattle.links.specs.Laws.{Below, Bindings, Linked, KeepsLinked, Sound}
 use Rattle.links.proofs.Keys.{look_in, live_inv}
 use Rattle.links.proofs.Loading.{Parts, load_parts}
 use Rattle.std.proofs.lemmas.Bool.{eqb-true, or_cases}
-use Rattle.std.proofs.lemmas.List.{length_push, length-map}
+use Rattle.std.proofs.lemmas.List.{length_push, length-map, length-set}
 
 below_wider : (n m : ℕ) (js : List ℕ) → n ≤ m → Below n js → Below m js
 below_wider n m [] h b = tt
@@ -28,7 +30,7 @@ below_has n j [] b e = let z : ◌≡◌ {A = ℕ} 0 1 = cc in absurd (omega ari
 below_has n j (x ∷ js) b e = ⊎_elim (λ q. omega (arith, b.0, eqb-true j x q)) (below_has n j js b.1) (or_cases (eqb j x) (has j js) e)
 
 resolve_in : (k : Links) (me : ℕ) (s : Symbol) (p : Place) → resolve k me s ≡ Some p → p.host < length k.modules
-resolve_in k me s p e = let t = look_in k.modules me s (scope k me) p e in nth_lt k.modules p.host t.0 t.2
+resolve_in k me s p e = let t = look_in k.modules me s (scope k me) p e in slice_get_within k.modules p.host t.0 t.2
 
 -- what refs are settled to is there
 targets_below : (k : Links) (me : ℕ) (cs : List Cell) → Below (length k.modules) (hosts (map (ref_target k me) cs))
@@ -63,7 +65,7 @@ put_bounds n i j p ms b h = go (slice_get ms i) refl
   where
     go : (o : Option Module) → slice_get ms i ≡ o → Bounds n (opt o ms (λ x. slice_set ms i (bound_to (slice_set x.bound j (Some p)) x)))
     go None e = h
-    go (Some x) e = let q = each_nth (Bindings n) ms i x h e in each_put (Bindings n) ms i (bound_to (slice_set x.bound j (Some p)) x) h (record { sized = length-put x.bound j (Some p) ∙ q.sized; below = put_below n x.bound j p q.below b })
+    go (Some x) e = let q = all_slice_get (Bindings n) ms i x h e in all_set (Bindings n) ms i (bound_to (slice_set x.bound j (Some p)) x) h (record { sized = length-set x.bound j (Some p) ∙ q.sized; below = put_below n x.bound j p q.below b })
 
 bind_bounds : (k : Links) (is : List ℕ) (ms : List Module) → Bounds (length k.modules) ms → Bounds (length k.modules) (bind_refs k is ms)
 bind_bounds k [] ms h = h
@@ -71,7 +73,7 @@ bind_bounds k (i ∷ is) ms h = bind_bounds k is _ (go (slice_get ms i))
   where
     go : (o : Option Module) → Bounds (length k.modules) (opt o ms (λ x. slice_set ms i (bound_to (map (ref_target k i) x.lib.cells) x)))
     go None = h
-    go (Some x) = each_put (Bindings (length k.modules)) ms i (bound_to (map (ref_target k i) x.lib.cells) x) h (record { sized = length-map x.lib.cells (ref_target k i); below = targets_below k i x.lib.cells })
+    go (Some x) = all_set (Bindings (length k.modules)) ms i (bound_to (map (ref_target k i) x.lib.cells) x) h (record { sized = length-map x.lib.cells (ref_target k i); below = targets_below k i x.lib.cells })
 
 bind_length : (k : Links) (is : List ℕ) (ms : List Module) → length (bind_refs k is ms) ≡ length ms
 bind_length k [] ms = refl
@@ -79,7 +81,7 @@ bind_length k (i ∷ is) ms = bind_length k is _ ∙ go (slice_get ms i)
   where
     go : (o : Option Module) → length (opt o ms (λ x. slice_set ms i (bound_to (map (ref_target k i) x.lib.cells) x))) ≡ length ms
     go None = refl
-    go (Some x) = length-put ms i _
+    go (Some x) = length-set ms i _
 
 loaded_below : (ms : List Module) (n : ℕ) (x : Name) (j : ℕ) → find_loaded ms n x ≡ Some j → j < n + length ms
 loaded_below [] n x j e = let z : ◌≡◌ {A = ℕ} 0 1 = cc in absurd (omega arith)
@@ -108,7 +110,7 @@ record GroupIn (n : ℕ) (b : Brought) : Type 0 where
   members : Below (length b.modules) b.members
 
 bounds_wider : (n m : ℕ) (ms : List Module) → n ≤ m → Bounds n ms → Bounds m ms
-bounds_wider n m ms h b = each_like (Bindings n) (Bindings m) ms (λ x q. record { sized = q.sized; below = below_wider n m (hosts x.bound) h q.below }) b
+bounds_wider n m ms h b = all_like (Bindings n) (Bindings m) ms (λ x q. record { sized = q.sized; below = below_wider n m (hosts x.bound) h q.below }) b
 
 module _ (ls : List Library) (m : Room) (g n : ℕ) where
   one_in : (b c : Brought) (x : Name) → GroupIn n b → bring_one ls m g b x ≡ Some c → GroupIn n c
@@ -121,15 +123,15 @@ module _ (ls : List Library) (m : Room) (g n : ℕ) where
       more l = omega (arith, length_push b.modules (unbound g l))
 
       go : (o : Option ℕ) → find_loaded b.modules 0 x ≡ o → opt o (on_some (find_library ls x) (λ l. fits m (added m g b l))) (λ j. fits m (joined b j)) ≡ Some c → GroupIn n c
-      go None p q = let t = on_some_inv (find_library ls x) (λ l. fits m (added m g b l)) c q in kept (added m g b t.0) t.2 (record { longer = omega (arith, r.longer, more t.0); bounds = each_push (Bindings (length (added m g b t.0).modules)) b.modules _ (bounds_wider (length b.modules) _ b.modules (omega (arith, more t.0)) r.bounds) (record { sized = length-map t.0.cells (λ c. None); below = nones_below (length (added m g b t.0).modules) t.0.cells }); members = each_push (λ j. j < length (added m g b t.0).modules) b.members _ (below_wider (length b.modules) _ b.members (omega (arith, more t.0)) r.members) (more t.0) })
-      go (Some j) p q = kept (joined b j) q (record { longer = r.longer; bounds = r.bounds; members = each_push (λ j. j < length b.modules) b.members j r.members (omega (arith, loaded_below b.modules 0 x j p)) })
+      go None p q = let t = on_some_inv (find_library ls x) (λ l. fits m (added m g b l)) c q in kept (added m g b t.0) t.2 (record { longer = omega (arith, r.longer, more t.0); bounds = All-push (Bindings (length (added m g b t.0).modules)) b.modules _ (bounds_wider (length b.modules) _ b.modules (omega (arith, more t.0)) r.bounds) (record { sized = length-map t.0.cells (λ c. None); below = nones_below (length (added m g b t.0).modules) t.0.cells }); members = All-push (λ j. j < length (added m g b t.0).modules) b.members _ (below_wider (length b.modules) _ b.members (omega (arith, more t.0)) r.members) (more t.0) })
+      go (Some j) p q = kept (joined b j) q (record { longer = r.longer; bounds = r.bounds; members = All-push (λ j. j < length b.modules) b.members j r.members (omega (arith, loaded_below b.modules 0 x j p)) })
 
   all_in : (xs : List Name) (b c : Brought) → GroupIn n b → bring_all ls m g xs b ≡ Some c → GroupIn n c
   all_in [] b c r e = subst (GroupIn n) (some_is e) r
   all_in (x ∷ xs) b c r e = let t = on_some_inv (bring_one ls m g b x) (λ d. bring_all ls m g xs d) c e in all_in xs t.0 c (one_in b t.0 x r t.1) t.2
 
 load_linked : (ls : List Library) (m : Room) (x : Name) (global : Bool) (k : Links) (l : Loaded) → Linked k → load ls m x global k ≡ Some l → Linked l.links
-load_linked ls m x global k l h e = subst (λ q. Linked q.links) (sym p.is) (record { bound = rw long (bind_bounds t p.brought.new p.brought.modules b.bounds); members = rw long (each_append (λ g. Below (length p.brought.modules) g.members) k.groups _ (each_like (λ g. Below (length k.modules) g.members) (λ g. Below (length p.brought.modules) g.members) k.groups (λ g. below_wider (length k.modules) (length p.brought.modules) g.members b.longer) h.members) (b.members, tt)); order = rw long (each_append (λ j. j < length p.brought.modules) k.order _ (below_wider (length k.modules) (length p.brought.modules) k.order b.longer h.order) (init_below p.brought.modules p.brought.new (init_order ls x))) })
+load_linked ls m x global k l h e = subst (λ q. Linked q.links) (sym p.is) (record { bound = rw long (bind_bounds t p.brought.new p.brought.modules b.bounds); members = rw long (all_append (λ g. Below (length p.brought.modules) g.members) k.groups _ (all_like (λ g. Below (length k.modules) g.members) (λ g. Below (length p.brought.modules) g.members) k.groups (λ g. below_wider (length k.modules) (length p.brought.modules) g.members b.longer) h.members) (b.members, tt)); order = rw long (all_append (λ j. j < length p.brought.modules) k.order _ (below_wider (length k.modules) (length p.brought.modules) k.order b.longer h.order) (init_below p.brought.modules p.brought.new (init_order ls x))) })
   where
     p : Parts ls m x global k l
     p = load_parts ls m x global k l e
@@ -151,14 +153,14 @@ slot_linked k me j p h l = record { bound = rw long (put_bounds (length k.module
       where
         go : (o : Option Module) → length (opt o k.modules (λ x. slice_set k.modules me (bound_to (slice_set x.bound j (Some p)) x))) ≡ length k.modules
         go None = refl
-        go (Some x) = length-put k.modules me _
+        go (Some x) = length-set k.modules me _
 
 close_linked : (k : Links) (h : ℕ) → Linked k → Linked (close_group k h)
 close_linked k h l = record { bound = l.bound; members = go (slice_get k.groups h) refl; order = l.order }
   where
     go : (o : Option Group) → slice_get k.groups h ≡ o → AllByRecursion (λ g. Below (length k.modules) g.members) (opt o k.groups (λ g. slice_set k.groups h (closed_group g)))
     go None e = l.members
-    go (Some g) e = each_put (λ g. Below (length k.modules) g.members) k.groups h (closed_group g) l.members (each_nth (λ g. Below (length k.modules) g.members) k.groups h g l.members e)
+    go (Some g) e = all_set (λ g. Below (length k.modules) g.members) k.groups h (closed_group g) l.members (all_slice_get (λ g. Below (length k.modules) g.members) k.groups h g l.members e)
 
 unload_bounds : (n : ℕ) (js : List ℕ) (ms : List Module) → Bounds n ms → Bounds n (unload_all js ms) × (length (unload_all js ms) ≡ length ms)
 unload_bounds n [] ms h = (h, refl)
@@ -166,7 +168,7 @@ unload_bounds n (j ∷ js) ms h = go (slice_get ms j) refl (unload_bounds n js)
   where
     go : (o : Option Module) → slice_get ms j ≡ o → ((ms : List Module) → Bounds n ms → Bounds n (unload_all js ms) × (length (unload_all js ms) ≡ length ms)) → Bounds n (unload_all js (opt o ms (λ x. slice_set ms j (unloaded x)))) × (length (unload_all js (opt o ms (λ x. slice_set ms j (unloaded x)))) ≡ length ms)
     go None e r = r ms h
-    go (Some x) e r = let q = each_nth (Bindings n) ms j x h e in let t = r (slice_set ms j (unloaded x)) (each_put (Bindings n) ms j (unloaded x) h (record { sized = q.sized; below = q.below })) in (t.0, t.1 ∙ length-put ms j (unloaded x))
+    go (Some x) e r = let q = all_slice_get (Bindings n) ms j x h e in let t = r (slice_set ms j (unloaded x)) (all_set (Bindings n) ms j (unloaded x) h (record { sized = q.sized; below = q.below })) in (t.0, t.1 ∙ length-set ms j (unloaded x))
 
 unload_linked : (k : Links) (js : List ℕ) → Linked k → Linked (unload js k)
 unload_linked k js h = let t = unload_bounds (length k.modules) (filter (λ j. has j (leaving k)) js) k.modules h.bound in record { bound = rw t.1 t.0; members = rw t.1 h.members; order = rw t.1 h.order }
@@ -176,11 +178,11 @@ linked_sound k h js j e = below_has (length k.modules) j (bound_of k.modules js)
   where
     one_below : (i : ℕ) (o : Option Module) → live_at k.modules i ≡ o → Below (length k.modules) (opt o [] (λ x. hosts x.bound))
     one_below i None q = tt
-    one_below i (Some x) q = (each_nth (Bindings (length k.modules)) k.modules i x h.bound (live_inv k.modules i x q).0).below
+    one_below i (Some x) q = (all_slice_get (Bindings (length k.modules)) k.modules i x h.bound (live_inv k.modules i x q).0).below
 
     all_below : (js : List ℕ) → Below (length k.modules) (bound_of k.modules js)
     all_below [] = tt
-    all_below (i ∷ is) = each_append (λ j. j < length k.modules) (opt (live_at k.modules i) [] (λ x. hosts x.bound)) (bound_of k.modules is) (one_below i (live_at k.modules i) refl) (all_below is)
+    all_below (i ∷ is) = all_append (λ j. j < length k.modules) (opt (live_at k.modules i) [] (λ x. hosts x.bound)) (bound_of k.modules is) (one_below i (live_at k.modules i) refl) (all_below is)
 
 pub keeps_linked : KeepsLinked
 keeps_linked = record { by_load = load_linked; by_slot = slot_linked; by_close = close_linked; by_unload = unload_linked; sound = linked_sound }

@@ -1,11 +1,12 @@
 -- Live modules: of other lists with the same keys, of lists grown, bound or unloaded.
+use Rattle.std.proofs.lemmas.Option.{slice_get_within}
 use Rattle.std.specs.Prelude.{None, Option, Some, cond, is_some, slice_get, slice_set}
 use Rattle.std.proofs.Common.{◌≡◌, ℕ, zero, suc, ◌+◌, Bool, true, false, ◌&&◌, eqb, ◌⊎◌, List, [], ◌∷◌, ◌++◌, map, length, sym, refl, ap, ◌∙◌, inl, inr, ⊎_elim, arith}
 use Rattle.base.specs.Choices.{opt, on_some, guard}
 use Rattle.base.specs.Lists.{has}
 use Rattle.base.specs.Names.{Name, same}
 use Rattle.base.proofs.Choices.{some_is, none_not_some}
-use Rattle.base.proofs.Lists.{nth_lt, nth_left, nth_push, put_same, put_other}
+use Rattle.base.proofs.Lists.{slice_get_left, slice_get_push, slice_get-set_same, slice_get-set_other}
 use Rattle.base.proofs.Names.{same_is, same_self}
 use Rattle.library.specs.Library.{Library, find_library}
 use Rattle.links.specs.Links.{Module, key}
@@ -39,13 +40,13 @@ one_keys ms ns e o i j x y p q h = let a = live_keys ns ms e i x p in let b = li
 
 -- in a longer list
 pub live_left : (ms ns : List Module) (i : ℕ) (x : Module) → live_at ms i ≡ Some x → live_at (ms ++ ns) i ≡ Some x
-live_left ms ns i x e = let p = live_inv ms i x e in live_from (ms ++ ns) i x (nth_left ms ns i x p.0) p.1
+live_left ms ns i x e = let p = live_inv ms i x e in live_from (ms ++ ns) i x (slice_get_left ms ns i x p.0) p.1
 
 pub LiveLeft : (ms ns : List Module) (i : ℕ) → Live ms i → Live (ms ++ ns) i
 LiveLeft ms ns i h = let p = live_is ms i h in is_live (ms ++ ns) i p.0 (live_left ms ns i p.0 p.1)
 
 pub live_push : (ms : List Module) (y : Module) (i : ℕ) (x : Module) → live_at (ms ++ (y ∷ [])) i ≡ Some x → (live_at ms i ≡ Some x) ⊎ ((i ≡ length ms) × (y ≡ x))
-live_push ms y i x e = let p = live_inv (ms ++ (y ∷ [])) i x e in ⊎_elim (λ q. inl (live_from ms i x q p.1)) inr (nth_push ms y i x p.0)
+live_push ms y i x e = let p = live_inv (ms ++ (y ∷ [])) i x e in ⊎_elim (λ q. inl (live_from ms i x q p.1)) inr (slice_get_push ms y i x p.0)
 
 -- the live module of a name
 pub find_named : (ls : List Library) (x : Name) (l : Library) → find_library ls x ≡ Some l → l.name ≡ x
@@ -80,10 +81,10 @@ loaded_none (m ∷ ms) n x e (suc i) y q h = loaded_none ms (suc n) x (rest (m.l
 -- unloaded: those of ds, no other
 module _ (ms : List Module) (d : ℕ) (x : Module) (e : slice_get ms d ≡ Some x) where
   gone_here : live_at (slice_set ms d (unloaded x)) d ≡ None
-  gone_here = ap (λ o. on_some o (λ z. guard z.live (Some z))) (put_same ms d (unloaded x) (nth_lt ms d x e))
+  gone_here = ap (λ o. on_some o (λ z. guard z.live (Some z))) (slice_get-set_same ms d (unloaded x) (slice_get_within ms d x e))
 
   gone_other : (i : ℕ) → (i ≡ d → ⊥) → live_at (slice_set ms d (unloaded x)) i ≡ live_at ms i
-  gone_other i h = ap (λ o. on_some o (λ z. guard z.live (Some z))) (put_other ms d i (unloaded x) h)
+  gone_other i h = ap (λ o. on_some o (λ z. guard z.live (Some z))) (slice_get-set_other ms d i (unloaded x) h)
 
 one_gone : (ms : List Module) (d i : ℕ) (x : Module) → live_at (opt (slice_get ms d) ms (λ y. slice_set ms d (unloaded y))) i ≡ Some x → (live_at ms i ≡ Some x) × (eqb i d ≡ false)
 one_gone ms d i x e = go (slice_get ms d) refl e

@@ -1,11 +1,11 @@
 -- A load puts new modules behind the old ones and takes words in order.
+use Rattle.std.proofs.ByRecursion.{All-push}
 use Rattle.std.specs.List.{AllByRecursion}
 use Rattle.std.specs.Prelude.{None, Option, Some, cond, slice_get, slice_set}
 use Rattle.std.proofs.Common.{◌≡◌, ℕ, zero, suc, ◌+◌, ◌<◌, ◌≤◌, Bool, true, false, leb, List, [], ◌∷◌, ◌++◌, map, length, sym, refl, ap, ◌∙◌, subst, append_assoc, append-nil, arith}
 use Rattle.base.specs.Choices.{opt, on_some, guard}
 use Rattle.base.specs.Names.{Name}
 use Rattle.base.proofs.Choices.{some_is, on_some_inv, guard_inv, opt_some}
-use Rattle.base.proofs.Lists.{each_push}
 use Rattle.library.specs.Library.{Symbol, Cell, number, ref, at, slot, named, instruction, Library, find_library}
 use Rattle.links.specs.Closure.{news, breadth, closure, init_order}
 use Rattle.links.specs.Links.{Module, Key, key, Links, Room, cells_in}
@@ -49,7 +49,7 @@ module _ (ls : List Library) (m : Room) (g : ℕ) (k : Links) where
   joined_brings b j r h = record { fresh = r.fresh; modules = r.modules; new = r.new; come = r.come; rising = rising_wider k.used b.starts (map cells_in r.fresh) b.used (suc b.used) r.rising (omega arith) }
 
   added_brings : (b : Brought) (x : Name) (l : Library) → find_library ls x ≡ Some l → Bringing ls m g k b → b.used + (m.gap + (1 + length l.cells)) ≤ m.words → Bringing ls m g k (added m g b l)
-  added_brings b x l e r h = record { fresh = r.fresh ++ (y ∷ []); modules = ap (λ z. z ++ (y ∷ [])) r.modules ∙ append_assoc k.modules r.fresh (y ∷ []); new = (λ i. r.new i ++ (count i ∷ [])) ∙ sym (up_from_push (length k.modules) (length r.fresh)) ∙ ap (up_from (length k.modules)) (sym (length_push r.fresh y ∙ one)); come = each_push (Comes ls g) r.fresh y r.come (record { name = x; found = e; live = refl; group = refl }); rising = rw (map_push cells_in r.fresh y) (rising_push k.used b.starts (map cells_in r.fresh) b.used (b.used + m.gap) (length l.cells) _ r.rising (omega arith) (omega arith)) }
+  added_brings b x l e r h = record { fresh = r.fresh ++ (y ∷ []); modules = ap (λ z. z ++ (y ∷ [])) r.modules ∙ append_assoc k.modules r.fresh (y ∷ []); new = (λ i. r.new i ++ (count i ∷ [])) ∙ sym (up_from_push (length k.modules) (length r.fresh)) ∙ ap (up_from (length k.modules)) (sym (length_push r.fresh y ∙ one)); come = All-push (Comes ls g) r.fresh y r.come (record { name = x; found = e; live = refl; group = refl }); rising = rw (map_push cells_in r.fresh y) (rising_push k.used b.starts (map cells_in r.fresh) b.used (b.used + m.gap) (length l.cells) _ r.rising (omega arith) (omega arith)) }
     where
       y : Module
       y = unbound g l
@@ -125,9 +125,9 @@ abbrev bound_from : Links → ℕ → List Module → List Module
 bound_from k i [] = []
 bound_from k i (x ∷ xs) = bound_to (map (ref_target k i) x.lib.cells) x ∷ bound_from k (suc i) xs
 
-nth_middle : {A : Type 0} (xs ys : List A) (x : A) → slice_get (xs ++ (x ∷ ys)) (length xs) ≡ Some x
-nth_middle [] ys x = refl
-nth_middle (z ∷ xs) ys x = nth_middle xs ys x
+slice_get_middle : {A : Type 0} (xs ys : List A) (x : A) → slice_get (xs ++ (x ∷ ys)) (length xs) ≡ Some x
+slice_get_middle [] ys x = refl
+slice_get_middle (z ∷ xs) ys x = slice_get_middle xs ys x
 
 put_middle : {A : Type 0} (xs ys : List A) (x v : A) → slice_set (xs ++ (x ∷ ys)) (length xs) v ≡ xs ++ (v ∷ ys)
 put_middle [] ys x v = refl
@@ -144,7 +144,7 @@ bind_refs_are k old (x ∷ xs) = ap (bind_refs k (up_from (suc (length old)) (le
     next = omega (arith, length_push old y)
 
     first : opt (slice_get (old ++ (x ∷ xs)) (length old)) (old ++ (x ∷ xs)) (λ z. slice_set (old ++ (x ∷ xs)) (length old) (bound_to (map (ref_target k (length old)) z.lib.cells) z)) ≡ (old ++ (y ∷ [])) ++ xs
-    first = opt_some (slice_get (old ++ (x ∷ xs)) (length old)) (old ++ (x ∷ xs)) (λ z. slice_set (old ++ (x ∷ xs)) (length old) (bound_to (map (ref_target k (length old)) z.lib.cells) z)) x (nth_middle old xs x) ∙ put_middle old xs x y ∙ sym (append_assoc old (y ∷ []) xs)
+    first = opt_some (slice_get (old ++ (x ∷ xs)) (length old)) (old ++ (x ∷ xs)) (λ z. slice_set (old ++ (x ∷ xs)) (length old) (bound_to (map (ref_target k (length old)) z.lib.cells) z)) x (slice_get_middle old xs x) ∙ put_middle old xs x y ∙ sym (append_assoc old (y ∷ []) xs)
 
 bound_cells : (k : Links) (i : ℕ) (xs : List Module) → map cells_in (bound_from k i xs) ≡ map cells_in xs
 bound_cells k i [] = refl

@@ -7,7 +7,7 @@ use Rattle.base.specs.Choices.{opt, on_some}
 use Rattle.base.specs.Lists.{has}
 use Rattle.base.specs.Names.{Name, same}
 use Rattle.base.proofs.Choices.{some_is, on_some_inv, guard_inv}
-use Rattle.base.proofs.Lists.{nth_last}
+use Rattle.base.proofs.Lists.{slice_get_last}
 use Rattle.library.specs.Library.{Symbol, Cell, number, ref, at, slot, named, instruction, Library, find_library}
 use Rattle.links.specs.Closure.{init_order}
 use Rattle.links.specs.Links.{Module, key, Links, Room}
@@ -55,7 +55,7 @@ module _ (ls : List Library) (m : Room) (g : ℕ) where
       pushed ms j p q = map_push (live_name ms) b.members j ∙ (λ t. p t ++ (q t ∷ [])) ∙ sym (map_push Some xs x)
 
       go : (o : Option ℕ) → find_loaded b.modules 0 x ≡ o → opt o (on_some (find_library ls x) (λ l. fits m (added m g b l))) (λ j. fits m (joined b j)) ≡ Some c → NamesSo (xs ++ (x ∷ [])) c
-      go None p q = let t = on_some_inv (find_library ls x) (λ l. fits m (added m g b l)) c q in kept (added m g b t.0) t.2 (pushed (b.modules ++ (unbound g t.0 ∷ [])) (length b.modules) (names_left b.modules (unbound g t.0 ∷ []) b.members xs r) (ap (option_map (λ x. x.lib.name)) (live_from (b.modules ++ (unbound g t.0 ∷ [])) (length b.modules) (unbound g t.0) (nth_last b.modules (unbound g t.0)) refl) ∙ ap Some (find_named ls x t.0 t.1)))
+      go None p q = let t = on_some_inv (find_library ls x) (λ l. fits m (added m g b l)) c q in kept (added m g b t.0) t.2 (pushed (b.modules ++ (unbound g t.0 ∷ [])) (length b.modules) (names_left b.modules (unbound g t.0 ∷ []) b.members xs r) (ap (option_map (λ x. x.lib.name)) (live_from (b.modules ++ (unbound g t.0 ∷ [])) (length b.modules) (unbound g t.0) (slice_get_last b.modules (unbound g t.0)) refl) ∙ ap Some (find_named ls x t.0 t.1)))
       go (Some j) p q = let t = loaded_is b.modules 0 x j p in let n : j ≡ t.0 = omega (arith, t.2) in kept (joined b j) q (pushed b.modules j r (ap (live_name b.modules) n ∙ ap (option_map (λ x. x.lib.name)) t.3 ∙ ap Some t.4))
 
   all_named : (xs ys : List Name) (b c : Brought) → NamesSo xs b → bring_all ls m g ys b ≡ Some c → NamesSo (xs ++ ys) c

@@ -2,7 +2,7 @@
 use Rattle.std.specs.Prelude.{Some, cond}
 use Rattle.std.proofs.Common.{◌≡◌, ℕ, zero, suc, ◌+◌, ◌≤◌, Bool, true, false, ◌||◌, ◌⊎◌, List, [], ◌∷◌, ◌++◌, length, sym, refl, ap, ◌∙◌, subst, inl, inr, ⊎_elim, arith}
 use Rattle.base.specs.Names.{Name, same, among, Once}
-use Rattle.base.proofs.Choices.{some_is, pick_true, pick_false, opt_some}
+use Rattle.base.proofs.Choices.{some_is, cond_true, cond_false, opt_some}
 use Rattle.base.proofs.Names.{same_self, once_append}
 use Rattle.library.specs.Library.{Library, find_library}
 use Rattle.links.specs.Closure.{Task, enter, leave, enters, depth, all_needs, init_order}
@@ -161,10 +161,10 @@ module _ (ls : List Library) (x : Name) where
       there false false h = omega arith
 
   depth_seen : (n : ℕ) (z : Name) (ts : List Task) (seen done : List Name) → among z seen ≡ true → depth (suc n) ls (enter z ∷ ts) seen done ≡ depth n ls ts seen done
-  depth_seen n z ts seen done e = pick_true (among z seen) _ _ e
+  depth_seen n z ts seen done e = cond_true (among z seen) _ _ e
 
   depth_entered : (n : ℕ) (z : Name) (l : Library) (ts : List Task) (seen done : List Name) → among z seen ≡ false → find_library ls z ≡ Some l → depth (suc n) ls (enter z ∷ ts) seen done ≡ depth n ls (enters l.needs ++ (leave z ∷ ts)) (z ∷ seen) done
-  depth_entered n z l ts seen done e q = pick_false (among z seen) _ _ e ∙ ap (λ ws. depth n ls (ws ++ (leave z ∷ ts)) (z ∷ seen) done) (opt_some (find_library ls z) [] (λ l. enters l.needs) l q)
+  depth_entered n z l ts seen done e q = cond_false (among z seen) _ _ e ∙ ap (λ ws. depth n ls (ws ++ (leave z ∷ ts)) (z ∷ seen) done) (opt_some (find_library ls z) [] (λ l. enters l.needs) l q)
 
   length_enters : (ws : List Name) → length (enters ws) ≡ length ws
   length_enters [] = refl

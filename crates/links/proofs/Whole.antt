@@ -1,11 +1,12 @@
 -- Links stay whole.
+use Rattle.std.proofs.lemmas.Option.{slice_get_within}
 use Rattle.std.specs.Prelude.{None, Option, Some, cond, filter, is_some, slice_get, slice_set}
 use Rattle.std.proofs.Common.{◌≡◌, ℕ, zero, suc, ◌+◌, Bool, true, false, not, ◌&&◌, leb, ◌⊎◌, List, [], ◌∷◌, ◌++◌, map, length, sym, refl, ap, ◌∙◌, subst, inl, inr, ⊎_elim, arith}
 use Rattle.base.specs.Choices.{opt, on_some}
 use Rattle.base.specs.Lists.{has, Within}
 use Rattle.base.specs.Names.{Name, among, Once}
 use Rattle.base.proofs.Choices.{some_is, none_not_some, on_some_inv, guard_inv}
-use Rattle.base.proofs.Lists.{nth_lt, nth_last, put_same, put_other}
+use Rattle.base.proofs.Lists.{slice_get_last, slice_get-set_same, slice_get-set_other}
 use Rattle.base.proofs.Sets.{has_here, has_there}
 use Rattle.library.specs.Library.{Cell, number, ref, at, slot, named, instruction, Library, find_library}
 use Rattle.links.specs.Closure.{init_order}
@@ -101,7 +102,7 @@ slot_hosts k me j p i a x e h = go (slice_get k.modules me) refl e
 
     go : (o : Option Module) → slice_get k.modules me ≡ o → live_at (opt o k.modules (λ x. slice_set k.modules me (bound_to (slice_set x.bound j (Some p)) x))) i ≡ Some x → Goal
     go None q e = inl (x, e, h)
-    go (Some y) q e = ⊎_elim here (λ n. inl (x, live_from k.modules i x (sym (put_other k.modules me i z n) ∙ t.0) t.1, h)) (cases_eq i me)
+    go (Some y) q e = ⊎_elim here (λ n. inl (x, live_from k.modules i x (sym (slice_get-set_other k.modules me i z n) ∙ t.0) t.1, h)) (cases_eq i me)
       where
         z : Module
         z = bound_to (slice_set y.bound j (Some p)) y
@@ -110,10 +111,10 @@ slot_hosts k me j p i a x e h = go (slice_get k.modules me) refl e
         t = live_inv (slice_set k.modules me z) i x e
 
         here : i ≡ me → Goal
-        here n = let s : z ≡ x = some_is (sym (put_same k.modules me z (nth_lt k.modules me y q)) ∙ ap (slice_get (slice_set k.modules me z)) (sym n) ∙ t.0) in ⊎_elim (λ r. inl (y, live_from k.modules i y (ap (slice_get k.modules) n ∙ q) (ap (λ m. m.live) s ∙ t.1), r)) inr (put_hosts y.bound j p a (subst (λ m. has a (hosts m.bound) ≡ true) (sym s) h))
+        here n = let s : z ≡ x = some_is (sym (slice_get-set_same k.modules me z (slice_get_within k.modules me y q)) ∙ ap (slice_get (slice_set k.modules me z)) (sym n) ∙ t.0) in ⊎_elim (λ r. inl (y, live_from k.modules i y (ap (slice_get k.modules) n ∙ q) (ap (λ m. m.live) s ∙ t.1), r)) inr (put_hosts y.bound j p a (subst (λ m. has a (hosts m.bound) ≡ true) (sym s) h))
 
 slot_whole : (k : Links) (me j : ℕ) (p : Place) → Whole k → Live k.modules p.host → Whole (slot_bound k me j p)
-slot_whole k me j p w l = record { linked = keeps_linked.by_slot k me j p w.linked (let t = live_is k.modules p.host l in nth_lt k.modules p.host t.0 (live_inv k.modules p.host t.0 t.1).0); bound = λ i a x e h. lives a (⊎_elim (λ t. w.bound i a t.0 t.1 t.2) (λ q. subst (Live k.modules) (sym q) l) (slot_hosts k me j p i a x e h)); members = λ a e. lives a (w.members a e); one_each = one_keys k.modules (slot_bound k me j p).modules (slot_keys k me j p) w.one_each; ordered = λ a h. w.ordered a (LiveKeys (slot_bound k me j p).modules k.modules (slot_keys k me j p) a h); once = w.once }
+slot_whole k me j p w l = record { linked = keeps_linked.by_slot k me j p w.linked (let t = live_is k.modules p.host l in slice_get_within k.modules p.host t.0 (live_inv k.modules p.host t.0 t.1).0); bound = λ i a x e h. lives a (⊎_elim (λ t. w.bound i a t.0 t.1 t.2) (λ q. subst (Live k.modules) (sym q) l) (slot_hosts k me j p i a x e h)); members = λ a e. lives a (w.members a e); one_each = one_keys k.modules (slot_bound k me j p).modules (slot_keys k me j p) w.one_each; ordered = λ a h. w.ordered a (LiveKeys (slot_bound k me j p).modules k.modules (slot_keys k me j p) a h); once = w.once }
   where
     lives : (a : ℕ) → Live k.modules a → Live (slot_bound k me j p).modules a
     lives a h = LiveKeys k.modules (slot_bound k me j p).modules (sym (slot_keys k me j p)) a h
@@ -143,7 +144,7 @@ module _ (ls : List Library) (m : Room) (g : ℕ) (k : Links) (ys : List Name) w
       n = length b.modules
 
       last_is : live_at (b.modules ++ (y ∷ [])) n ≡ Some y
-      last_is = live_from (b.modules ++ (y ∷ [])) n y (nth_last b.modules y) refl
+      last_is = live_from (b.modules ++ (y ∷ [])) n y (slice_get_last b.modules y) refl
 
       last : Live (b.modules ++ (y ∷ [])) n
       last = is_live (b.modules ++ (y ∷ [])) n y last_is
@@ -236,15 +237,15 @@ targets_live k me (slot s ∷ cs) j e = targets_live k me cs j e
 targets_live k me (named x ∷ cs) j e = targets_live k me cs j e
 targets_live k me (instruction o ∷ cs) j e = targets_live k me cs j e
 
-pub nth_split : {A : Type 0} (xs ys : List A) (i : ℕ) (z : A) → slice_get (xs ++ ys) i ≡ Some z → (slice_get xs i ≡ Some z) ⊎ ((d : ℕ) × (i ≡ length xs + d) × (slice_get ys d ≡ Some z))
-nth_split [] ys i z e = inr (i, omega arith, e)
-nth_split (x ∷ xs) ys zero z e = inl e
-nth_split (x ∷ xs) ys (suc i) z e = ⊎_elim inl (λ t. inr (t.0, omega (arith, t.1), t.2)) (nth_split xs ys i z e)
+pub slice_get_split : {A : Type 0} (xs ys : List A) (i : ℕ) (z : A) → slice_get (xs ++ ys) i ≡ Some z → (slice_get xs i ≡ Some z) ⊎ ((d : ℕ) × (i ≡ length xs + d) × (slice_get ys d ≡ Some z))
+slice_get_split [] ys i z e = inr (i, omega arith, e)
+slice_get_split (x ∷ xs) ys zero z e = inl e
+slice_get_split (x ∷ xs) ys (suc i) z e = ⊎_elim inl (λ t. inr (t.0, omega (arith, t.1), t.2)) (slice_get_split xs ys i z e)
 
-pub bound_nth : (k : Links) (i : ℕ) (xs : List Module) (d : ℕ) (x : Module) → BoundFrom k i xs → slice_get xs d ≡ Some x → x.bound ≡ map (ref_target k (i + d)) x.lib.cells
-bound_nth k i [] d x b e = absurd (none_not_some e)
-bound_nth k i (y ∷ xs) zero x b e = let s : y ≡ x = some_is e in let n : i ≡ i + 0 = omega arith in subst (λ m. m.bound ≡ map (ref_target k (i + 0)) m.lib.cells) s (subst (λ a. y.bound ≡ map (ref_target k a) y.lib.cells) n b.0)
-bound_nth k i (y ∷ xs) (suc d) x b e = let n : suc i + d ≡ i + suc d = omega arith in subst (λ a. x.bound ≡ map (ref_target k a) x.lib.cells) n (bound_nth k (suc i) xs d x b.1 e)
+pub bound_slice_get : (k : Links) (i : ℕ) (xs : List Module) (d : ℕ) (x : Module) → BoundFrom k i xs → slice_get xs d ≡ Some x → x.bound ≡ map (ref_target k (i + d)) x.lib.cells
+bound_slice_get k i [] d x b e = absurd (none_not_some e)
+bound_slice_get k i (y ∷ xs) zero x b e = let s : y ≡ x = some_is e in let n : i ≡ i + 0 = omega arith in subst (λ m. m.bound ≡ map (ref_target k (i + 0)) m.lib.cells) s (subst (λ a. y.bound ≡ map (ref_target k a) y.lib.cells) n b.0)
+bound_slice_get k i (y ∷ xs) (suc d) x b e = let n : suc i + d ≡ i + suc d = omega arith in subst (λ a. x.bound ≡ map (ref_target k a) x.lib.cells) n (bound_slice_get k (suc i) xs d x b.1 e)
 
 open_push : (gs : List Group) (g : Group) (j : ℕ) → has j (open_members (gs ++ (g ∷ []))) ≡ true → (has j (open_members gs) ≡ true) ⊎ (has j g.members ≡ true)
 open_push [] g j e = go g.opened e
@@ -290,7 +291,7 @@ load_whole ls m x global k l w e = record { linked = keeps_linked.by_load ls m x
     old_lives j h = subst (λ ms. Live ms j) (sym a.modules) (LiveLeft k.modules a.fresh j h)
 
     bound : (i j : ℕ) (y : Module) → live_at l.links.modules i ≡ Some y → has j (hosts y.bound) ≡ true → Live l.links.modules j
-    bound i j y q h = let t = live_inv l.links.modules i y q in ⊎_elim (λ n. old_lives j (w.bound i j y (live_from k.modules i y n t.1) h)) (λ n. targets_live l.links (length k.modules + n.0) y.lib.cells j (subst (λ bs. has j (hosts bs) ≡ true) (bound_nth l.links (length k.modules) a.fresh n.0 y a.bound n.2) h)) (nth_split k.modules a.fresh i y (ap (λ ms. slice_get ms i) (sym a.modules) ∙ t.0))
+    bound i j y q h = let t = live_inv l.links.modules i y q in ⊎_elim (λ n. old_lives j (w.bound i j y (live_from k.modules i y n t.1) h)) (λ n. targets_live l.links (length k.modules + n.0) y.lib.cells j (subst (λ bs. has j (hosts bs) ≡ true) (bound_slice_get l.links (length k.modules) a.fresh n.0 y a.bound n.2) h)) (slice_get_split k.modules a.fresh i y (ap (λ ms. slice_get ms i) (sym a.modules) ∙ t.0))
 
     members : (j : ℕ) → has j (open_members l.links.groups) ≡ true → Live l.links.modules j
     members j h = ⊎_elim (λ q. old_lives j (w.members j q)) (λ q. LiveKeys b.modules l.links.modules (sym keys) j (g.members j q)) (open_push k.groups (record { members = b.members; opened = true; global = global }) j (subst (λ q. has j (open_members q.links.groups) ≡ true) p.is h))
@@ -378,7 +379,7 @@ slot_stays k me j p w l f = staying_grows k (slot_bound k me j p) (slot_whole k 
 
         go : (o : Option Module) → slice_get k.modules me ≡ o → (y : Module) × (live_at (opt o k.modules (λ x. slice_set k.modules me (bound_to (slice_set x.bound j (Some p)) x))) i ≡ Some y) × Within (hosts x.bound) (hosts y.bound)
         go None q = (x, e, λ a h. h)
-        go (Some z) q = ⊎_elim (λ n. let s : z ≡ x = some_is (sym q ∙ ap (slice_get k.modules) (sym n) ∙ t.0) in (v, live_from (slice_set k.modules me v) i v (ap (slice_get (slice_set k.modules me v)) n ∙ put_same k.modules me v (nth_lt k.modules me z q)) (ap (λ m. m.live) s ∙ t.1), subst (λ m. Within (hosts m.bound) (hosts v.bound)) s (put_more z.bound j p (f z q)))) (λ n. (x, live_from (slice_set k.modules me v) i x (put_other k.modules me i v n ∙ t.0) t.1, λ a h. h)) (cases_eq i me)
+        go (Some z) q = ⊎_elim (λ n. let s : z ≡ x = some_is (sym q ∙ ap (slice_get k.modules) (sym n) ∙ t.0) in (v, live_from (slice_set k.modules me v) i v (ap (slice_get (slice_set k.modules me v)) n ∙ slice_get-set_same k.modules me v (slice_get_within k.modules me z q)) (ap (λ m. m.live) s ∙ t.1), subst (λ m. Within (hosts m.bound) (hosts v.bound)) s (put_more z.bound j p (f z q)))) (λ n. (x, live_from (slice_set k.modules me v) i x (slice_get-set_other k.modules me i v n ∙ t.0) t.1, λ a h. h)) (cases_eq i me)
           where
             v : Module
             v = bound_to (slice_set z.bound j (Some p)) z

@@ -4,10 +4,10 @@ use Rattle.std.proofs.Common.{◌≡◌, ℕ, zero, suc, ◌+◌, ◌-◌, ◌<�
 use Rattle.std.proofs.lemmas.List.{drop-set, drop_more, drop_all, take_all}
 use Rattle.std.proofs.lemmas.Bool.{cases_lt}
 
-pub nth_past : (xs : List ℕ) (i : ℕ) → length xs ≤ i → slice_get xs i ≡ None
-nth_past [] i h = refl
-nth_past (x ∷ xs) zero h = absurd (omega arith)
-nth_past (x ∷ xs) (suc i) h = nth_past xs i (omega arith)
+pub slice_get_past : (xs : List ℕ) (i : ℕ) → length xs ≤ i → slice_get xs i ≡ None
+slice_get_past [] i h = refl
+slice_get_past (x ∷ xs) zero h = absurd (omega arith)
+slice_get_past (x ∷ xs) (suc i) h = slice_get_past xs i (omega arith)
 
 pub put_past : (xs : List ℕ) (i v : ℕ) → length xs ≤ i → slice_set xs i v ≡ xs
 put_past [] i v h = refl

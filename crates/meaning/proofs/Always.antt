@@ -1,11 +1,12 @@
 -- Links are whole in every state that a program comes to.
+use Rattle.std.proofs.lemmas.Option.{slice_get_within}
 use Rattle.std.specs.List.{AllByRecursion}
 use Rattle.std.specs.Prelude.{None, Option, Some, filter, slice_get, slice_set}
 use Rattle.std.proofs.Common.{◌≡◌, ℕ, zero, suc, ◌+◌, Bool, true, false, not, ◌&&◌, eqb, ◌⊎◌, List, [], ◌∷◌, ◌++◌, map, length, sym, refl, ap, ◌∙◌, subst, inl, inr, ⊎_elim, arith}
 use Rattle.base.specs.Choices.{opt, on_some}
 use Rattle.base.specs.Lists.{has, Within}
 use Rattle.base.proofs.Choices.{some_is, none_not_some, on_some_inv}
-use Rattle.base.proofs.Lists.{length-put, nth_lt, nth_left, nth_right, put_same, put_other, each_like}
+use Rattle.base.proofs.Lists.{slice_get_left, slice_get_right, slice_get-set_same, slice_get-set_other, all_like}
 use Rattle.library.specs.Library.{Symbol, Cell, number, ref, at, slot, named, instruction, Library}
 use Rattle.links.specs.Links.{Place, Module, Links, Room}
 use Rattle.links.specs.Load.{ref_target, bound_to, Loaded, load}
@@ -15,7 +16,7 @@ use Rattle.links.specs.Whole.{staying, Live, Whole}
 use Rattle.links.proofs.Lives.{is_live, LiveKeys}
 use Rattle.links.proofs.Loading.{load_appends}
 use Rattle.links.proofs.Resolved.{resolve_first}
-use Rattle.links.proofs.Whole.{keeps_whole, nth_split, bound_nth, slot_keys, load_stays, new_stays, slot_stays, leaves_or_stays}
+use Rattle.links.proofs.Whole.{keeps_whole, slice_get_split, bound_slice_get, slot_keys, load_stays, new_stays, slot_stays, leaves_or_stays}
 use Rattle.meaning.specs.State.{Value, place, Held, val, link, Sequel, gives, drops, ends, stops, Frame, back, pending, Core, State, with_core, Next, first_helds, new_cells}
 use Rattle.meaning.specs.Steps.{put_cell, is_drops, closing}
 use Rattle.meaning.specs.Runs.{blank, begins}
@@ -23,7 +24,7 @@ use Rattle.meaning.specs.Always.{state_of, RunsWhole}
 use Rattle.meaning.proofs.Changes.{Framed, kept, noted, came_back, taken, opened, cleared, Change, no_meaning, is_lost, has_ended, runs, writes, shows, opens_group, binds_slot, begins_close, does_close, after_by}
 use Rattle.meaning.proofs.Grows.{begins_inv}
 use Rattle.meaning.proofs.Parts.{part_at, helds, bonds, part_other, part_same, part_any, held_part}
-use Rattle.std.proofs.lemmas.List.{length-append}
+use Rattle.std.proofs.lemmas.List.{length-append, length-set}
 use Rattle.std.proofs.lemmas.Bool.{cases_eq, and_parts, not-true, or_parts}
 
 -- a slot that isn't settled in the cells has no binding
@@ -51,7 +52,7 @@ record Sane (s : State) : Type 0 where
   alone : Alone s.core.frames
 
 covers_more : (k q : Links) → ((i : ℕ) → Live q.modules i → Live k.modules i ⊎ (has i (staying q) ≡ true)) → Within (staying k) (staying q) → (fs : List Frame) → AllByRecursion (Covers k) fs → AllByRecursion (Covers q) fs
-covers_more k q l g fs c = each_like (Covers k) (Covers q) fs one c
+covers_more k q l g fs c = all_like (Covers k) (Covers q) fs one c
   where
     one : (f : Frame) → Covers k f → Covers q f
     one (back p) h = tt
@@ -76,7 +77,7 @@ put_cells_length css i k h = go (slice_get css i)
   where
     go : (o : Option (List Held)) → length (opt o css (λ hs. slice_set css i (slice_set hs k h))) ≡ length css
     go None = refl
-    go (Some hs) = length-put css i (slice_set hs k h)
+    go (Some hs) = length-set css i (slice_set hs k h)
 
 -- a write puts no slot anywhere
 write_unsettled : (css : List (List Held)) (ms : List Module) (i k : ℕ) (v : Value) → Unsettled css ms → Unsettled (put_cell css i k (val v)) ms
@@ -99,7 +100,7 @@ unload_bonds (d ∷ ds) ms i c = unload_bonds ds (opt (slice_get ms d) ms (λ x.
   where
     go : (o : Option Module) → slice_get ms d ≡ o → part_at bonds (opt o ms (λ x. slice_set ms d (unloaded x))) i c ≡ part_at bonds ms i c
     go None q = refl
-    go (Some x) q = ⊎_elim (λ n. ap (λ o. on_some o (λ x. slice_get x.bound c)) (ap (slice_get (slice_set ms d (unloaded x))) n ∙ put_same ms d (unloaded x) (nth_lt ms d x q)) ∙ sym (ap (λ o. on_some o (λ x. slice_get x.bound c)) (ap (slice_get ms) n ∙ q))) (λ n. ap (λ o. on_some o (λ x. slice_get x.bound c)) (put_other ms d i (unloaded x) n)) (cases_eq i d)
+    go (Some x) q = ⊎_elim (λ n. ap (λ o. on_some o (λ x. slice_get x.bound c)) (ap (slice_get (slice_set ms d (unloaded x))) n ∙ slice_get-set_same ms d (unloaded x) (slice_get_within ms d x q)) ∙ sym (ap (λ o. on_some o (λ x. slice_get x.bound c)) (ap (slice_get ms) n ∙ q))) (λ n. ap (λ o. on_some o (λ x. slice_get x.bound c)) (slice_get-set_other ms d i (unloaded x) n)) (cases_eq i d)
 
 pub unload_length : (ds : List ℕ) (ms : List Module) → length (unload_all ds ms) ≡ length ms
 unload_length [] ms = refl
@@ -107,14 +108,14 @@ unload_length (d ∷ ds) ms = unload_length ds (opt (slice_get ms d) ms (λ x. s
   where
     go : (o : Option Module) → length (opt o ms (λ x. slice_set ms d (unloaded x))) ≡ length ms
     go None = refl
-    go (Some x) = length-put ms d (unloaded x)
+    go (Some x) = length-set ms d (unloaded x)
 
 pub slot_length : (k : Links) (me j : ℕ) (p : Place) → length (slot_bound k me j p).modules ≡ length k.modules
 slot_length k me j p = go (slice_get k.modules me)
   where
     go : (o : Option Module) → length (opt o k.modules (λ x. slice_set k.modules me (bound_to (slice_set x.bound j (Some p)) x))) ≡ length k.modules
     go None = refl
-    go (Some x) = length-put k.modules me (bound_to (slice_set x.bound j (Some p)) x)
+    go (Some x) = length-set k.modules me (bound_to (slice_set x.bound j (Some p)) x)
 
 -- cells of new modules: only slots are unsettled, and they have no binding
 slot_first : (k : Links) (me : ℕ) (cs : List Cell) (c : ℕ) (y : Symbol) → slice_get (first_helds k me cs) c ≡ Some (link y None) → slice_get (map (ref_target k me) cs) c ≡ Some None
@@ -140,29 +141,29 @@ up_from_length : (a n : ℕ) → length (up_from a n) ≡ n
 up_from_length a zero = refl
 up_from_length a (suc n) = ap suc (up_from_length (suc a) n)
 
-new_cells_nth : (k : Links) (a n d : ℕ) (hs : List Held) → slice_get (new_cells k (up_from a n)) d ≡ Some hs → hs ≡ opt (slice_get k.modules (a + d)) [] (λ x. first_helds k (a + d) x.lib.cells)
-new_cells_nth k a zero d hs e = absurd (none_not_some e)
-new_cells_nth k a (suc n) zero hs e = let s : a ≡ a + 0 = omega arith in subst (λ b. hs ≡ opt (slice_get k.modules b) [] (λ x. first_helds k b x.lib.cells)) s (sym (some_is e))
-new_cells_nth k a (suc n) (suc d) hs e = let s : suc a + d ≡ a + suc d = omega arith in subst (λ b. hs ≡ opt (slice_get k.modules b) [] (λ x. first_helds k b x.lib.cells)) s (new_cells_nth k (suc a) n d hs e)
+new_cells_slice_get : (k : Links) (a n d : ℕ) (hs : List Held) → slice_get (new_cells k (up_from a n)) d ≡ Some hs → hs ≡ opt (slice_get k.modules (a + d)) [] (λ x. first_helds k (a + d) x.lib.cells)
+new_cells_slice_get k a zero d hs e = absurd (none_not_some e)
+new_cells_slice_get k a (suc n) zero hs e = let s : a ≡ a + 0 = omega arith in subst (λ b. hs ≡ opt (slice_get k.modules b) [] (λ x. first_helds k b x.lib.cells)) s (sym (some_is e))
+new_cells_slice_get k a (suc n) (suc d) hs e = let s : suc a + d ≡ a + suc d = omega arith in subst (λ b. hs ≡ opt (slice_get k.modules b) [] (λ x. first_helds k b x.lib.cells)) s (new_cells_slice_get k (suc a) n d hs e)
 
 load_unsettled : (ls : List Library) (m : Room) (x : _) (global : Bool) (k : Links) (l : Loaded) (css : List (List Held)) → load ls m x global k ≡ Some l → length css ≡ length k.modules → Unsettled css k.modules → Unsettled (css ++ new_cells l.links l.new) l.links.modules
-load_unsettled ls m x global k l css e z u i c y h = let t = on_some_inv (slice_get (css ++ new_cells l.links l.new) i) (λ hs. slice_get hs c) (link y None) h in ⊎_elim (old t.0 t.2) (new t.0 t.2) (nth_split css (new_cells l.links l.new) i t.0 t.1)
+load_unsettled ls m x global k l css e z u i c y h = let t = on_some_inv (slice_get (css ++ new_cells l.links l.new) i) (λ hs. slice_get hs c) (link y None) h in ⊎_elim (old t.0 t.2) (new t.0 t.2) (slice_get_split css (new_cells l.links l.new) i t.0 t.1)
   where
     a : Loads ls m k l
     a = load_appends ls m x global k l e
 
     old : (hs : List Held) → slice_get hs c ≡ Some (link y None) → slice_get css i ≡ Some hs → part_at bonds l.links.modules i c ≡ Some None
-    old hs q n = let r = u i c y (ap (λ o. on_some o (λ hs. slice_get hs c)) n ∙ q) in let t = on_some_inv (slice_get k.modules i) (λ x. slice_get x.bound c) None r in ap (λ o. on_some o (λ x. slice_get x.bound c)) (ap (λ ms. slice_get ms i) a.modules ∙ nth_left k.modules a.fresh i t.0 t.1) ∙ t.2
+    old hs q n = let r = u i c y (ap (λ o. on_some o (λ hs. slice_get hs c)) n ∙ q) in let t = on_some_inv (slice_get k.modules i) (λ x. slice_get x.bound c) None r in ap (λ o. on_some o (λ x. slice_get x.bound c)) (ap (λ ms. slice_get ms i) a.modules ∙ slice_get_left k.modules a.fresh i t.0 t.1) ∙ t.2
 
     new : (hs : List Held) → slice_get hs c ≡ Some (link y None) → (d : ℕ) × (i ≡ length css + d) × (slice_get (new_cells l.links l.new) d ≡ Some hs) → part_at bonds l.links.modules i c ≡ Some None
-    new hs q n = go (slice_get l.links.modules (length k.modules + n.0)) refl (new_cells_nth l.links (length k.modules) (length a.fresh) n.0 hs (ap (λ is. slice_get (new_cells l.links is) n.0) (sym a.new) ∙ n.2))
+    new hs q n = go (slice_get l.links.modules (length k.modules + n.0)) refl (new_cells_slice_get l.links (length k.modules) (length a.fresh) n.0 hs (ap (λ is. slice_get (new_cells l.links is) n.0) (sym a.new) ∙ n.2))
       where
         at_i : i ≡ length k.modules + n.0
         at_i = omega (arith, z, n.1)
 
         go : (o : Option Module) → slice_get l.links.modules (length k.modules + n.0) ≡ o → hs ≡ opt o [] (λ x. first_helds l.links (length k.modules + n.0) x.lib.cells) → part_at bonds l.links.modules i c ≡ Some None
         go None p r = absurd (none_not_some (sym (ap (λ zs. slice_get zs c) r) ∙ q))
-        go (Some v) p r = ap (λ o. on_some o (λ x. slice_get x.bound c)) (ap (slice_get l.links.modules) at_i ∙ p) ∙ ap (λ bs. slice_get bs c) (bound_nth l.links (length k.modules) a.fresh n.0 v a.bound (sym (nth_right k.modules a.fresh n.0) ∙ ap (λ ms. slice_get ms (length k.modules + n.0)) (sym a.modules) ∙ p)) ∙ slot_first l.links (length k.modules + n.0) v.lib.cells c y (sym (ap (λ zs. slice_get zs c) r) ∙ q)
+        go (Some v) p r = ap (λ o. on_some o (λ x. slice_get x.bound c)) (ap (slice_get l.links.modules) at_i ∙ p) ∙ ap (λ bs. slice_get bs c) (bound_slice_get l.links (length k.modules) a.fresh n.0 v a.bound (sym (slice_get_right k.modules a.fresh n.0) ∙ ap (λ ms. slice_get ms (length k.modules + n.0)) (sym a.modules) ∙ p)) ∙ slot_first l.links (length k.modules + n.0) v.lib.cells c y (sym (ap (λ zs. slice_get zs c) r) ∙ q)
 
 load_sized : (ls : List Library) (m : Room) (x : _) (global : Bool) (k : Links) (l : Loaded) (css : List (List Held)) → load ls m x global k ≡ Some l → length css ≡ length k.modules → length (css ++ new_cells l.links l.new) ≡ length l.links.modules
 load_sized ls m x global k l css e z = let a = load_appends ls m x global k l e in omega (arith, z, length-append css (new_cells l.links l.new), new_cells_length l.links l.new, ap length a.new, up_from_length (length k.modules) (length a.fresh), ap length a.modules, length-append k.modules a.fresh)

@@ -5,7 +5,7 @@ use Rattle.base.specs.Choices.{on_some}
 use Rattle.base.specs.Names.{Name}
 use Rattle.base.specs.Lists.{has}
 use Rattle.base.proofs.Choices.{some_is, on_some_inv}
-use Rattle.base.proofs.Lists.{nth_left}
+use Rattle.base.proofs.Lists.{slice_get_left}
 use Rattle.library.specs.Library.{Library}
 use Rattle.links.specs.Links.{Place, Links, Room}
 use Rattle.links.specs.Load.{Loaded, load}
@@ -15,7 +15,7 @@ use Rattle.links.specs.Whole.{Live}
 use Rattle.links.proofs.Keys.{live_inv, live_from}
 use Rattle.links.proofs.Lives.{live_is, is_live, LiveKeys, unload_inv}
 use Rattle.links.proofs.Loading.{load_appends}
-use Rattle.links.proofs.Whole.{nth_split, slot_keys}
+use Rattle.links.proofs.Whole.{slice_get_split, slot_keys}
 use Rattle.meaning.specs.State.{place, Held, val, link, State, Next, new_cells}
 use Rattle.meaning.specs.Steps.{put_cell}
 use Rattle.meaning.specs.Always.{state_of, lasts, cell_of, CellsLast, GoneStays}
@@ -32,7 +32,7 @@ put_lasts css a b old v i c h o f l e = part_other helds (λ hs. slice_set hs b 
     apart p q = let s : old ≡ h = some_is (sym o ∙ (λ t. part_at helds css (sym p t) (sym q t)) ∙ e) in let t : lasts old ≡ true = ap lasts s ∙ l in let z : ◌≡◌ {A = ℕ} 0 1 = cc in omega arith
 
 append_lasts : (css ns : List (List Held)) (i c : ℕ) (h : Held) → part_at helds css i c ≡ Some h → part_at helds (css ++ ns) i c ≡ Some h
-append_lasts css ns i c h e = let t = on_some_inv (slice_get css i) (λ hs. slice_get hs c) h e in ap (λ o. on_some o (λ hs. slice_get hs c)) (nth_left css ns i t.0 t.1) ∙ t.2
+append_lasts css ns i c h e = let t = on_some_inv (slice_get css i) (λ hs. slice_get hs c) h e in ap (λ o. on_some o (λ hs. slice_get hs c)) (slice_get_left css ns i t.0 t.1) ∙ t.2
 
 change_lasts : (ls : List Library) (m : Room) (s : State) (n : Next) → Change ls m s n → (i c : ℕ) (h : Held) → lasts h ≡ true → cell_of s i c ≡ Some h → cell_of (state_of n) i c ≡ Some h
 change_lasts ls m s n no_meaning i c h l e = e
@@ -66,7 +66,7 @@ load_older ls m x global k l e = (omega (arith, ap length a.modules, length-appe
     a = load_appends ls m x global k l e
 
     old : (i : ℕ) → i < length k.modules → Live l.links.modules i → Live k.modules i
-    old i h v = let t = live_is l.links.modules i v in let s = live_inv l.links.modules i t.0 t.1 in ⊎_elim (λ n. is_live k.modules i t.0 (live_from k.modules i t.0 n s.1)) (λ n. absurd (past n.0 n.1)) (nth_split k.modules a.fresh i t.0 (ap (λ ms. slice_get ms i) (sym a.modules) ∙ s.0))
+    old i h v = let t = live_is l.links.modules i v in let s = live_inv l.links.modules i t.0 t.1 in ⊎_elim (λ n. is_live k.modules i t.0 (live_from k.modules i t.0 n s.1)) (λ n. absurd (past n.0 n.1)) (slice_get_split k.modules a.fresh i t.0 (ap (λ ms. slice_get ms i) (sym a.modules) ∙ s.0))
       where
         past : (d : ℕ) → i ≡ length k.modules + d → ⊥
         past d p = omega arith

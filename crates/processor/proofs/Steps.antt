@@ -1,8 +1,8 @@
 -- Each step, by the kind of its instruction: what was shown stays shown, and the memory keeps its size.
+use Rattle.std.proofs.lemmas.List.{length-set}
 use Rattle.std.specs.Prelude.{Option, cond, slice_get}
 use Rattle.std.proofs.Common.{◌≡◌, ℕ, Bool, true, false, eqb, List, [], ◌∷◌, length, Some, None, Option as OptionCode, sym, refl, subst}
 use Rattle.base.specs.Choices.{opt}
-use Rattle.base.proofs.Lists.{length-put}
 use Rattle.processor.specs.Cpu
 use Rattle.processor.specs.Cpu.{Processor, Did, computes, did, step}
 use Rattle.processor.specs.Operations.{acts, act, decoded}
@@ -48,7 +48,7 @@ module _ (c : Processor) where
   acts_keeps : (i : Operation) → Keeps c (acts c i)
   acts_keeps (Set r k) = same refl refl
   acts_keeps (Load r a k) = reg_keeps a _ (λ x. word_keeps _ _ (λ w. same refl refl))
-  acts_keeps (Store a k r) = reg_keeps a _ (λ x. reg_keeps r _ (λ y. word_keeps _ _ (λ w. record { shown = front_self c.outs; sized = length-put c.words _ y })))
+  acts_keeps (Store a k r) = reg_keeps a _ (λ x. reg_keeps r _ (λ y. word_keeps _ _ (λ w. record { shown = front_self c.outs; sized = length-set c.words _ y })))
   acts_keeps (Own r k) = same refl refl
   acts_keeps (Add r a b) = computes_keeps r a b _
   acts_keeps (Sub r a b) = computes_keeps r a b _

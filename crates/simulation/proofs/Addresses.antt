@@ -1,9 +1,10 @@
 -- Addresses of live modules are apart, and a step changes the word of the cell that it writes alone.
+use Rattle.std.proofs.lemmas.Option.{slice_get_within}
 use Rattle.std.specs.Prelude.{None, Option, Some, cond, slice_get}
 use Rattle.std.proofs.Common.{◌≡◌, ℕ, ◌+◌, ◌<◌, ◌≤◌, Bool, true, false, eqb, ◌⊎◌, List, [], ◌∷◌, sym, refl, ap, ◌∙◌, subst, inl, inr, ⊎_elim, arith}
 use Rattle.std.proofs.lemmas.Bool.{cases_eq}
 use Rattle.base.specs.Choices.{opt}
-use Rattle.base.proofs.Lists.{put_other, nth_lt}
+use Rattle.base.proofs.Lists.{slice_get-set_other}
 use Rattle.library.specs.Library.{Instruction, Set, Get, Sto, Own, Add, Sub, Mul, Less, Same, Move, Jump, If0, Call, Callr, Ret, Push, Pop, Out, In, Open, Find, Close, End, Library}
 use Rattle.links.specs.Links.{Module, Room}
 use Rattle.links.specs.Scope.{live_at}
@@ -71,7 +72,7 @@ module _ (ls : List Library) (k : Layout) (m : Room) (s t : State) (c : Processo
   IfStored (wrong u) d = Unit
 
   sto_stored : (a n r : ℕ) → state.held_at s s.core.here.host s.core.here.cell ≡ Some (code (Sto a n r)) → IfStored (steps.does ls m s (Sto a n r)) (Cpu.does c (fields (Sto a n r) s.core.here.cell))
-  sto_stored a n r e = sto_cases ls k s c rel m (low k ls m s c rel _ e) IfStored (λ d. tt) (λ i j v old x hs fv ei es ej. let h : j < size_of k i = omega (arith, nth_lt hs j (val old) ej, (rel.mem.cells i x hs ei es).sized) in record {
+  sto_stored a n r e = sto_cases ls k s c rel m (low k ls m s c rel _ e) IfStored (λ d. tt) (λ i j v old x hs fv ei es ej. let h : j < size_of k i = omega (arith, slice_get_within hs j (val old) ej, (rel.mem.cells i x hs ei es).sized) in record {
     host = i;
     cell = j;
     value = v;
@@ -80,7 +81,7 @@ module _ (ls : List Library) (k : Layout) (m : Room) (s t : State) (c : Processo
     inside = h;
     cells = refl;
     words = refl;
-    others = λ a b y ea l d. put_other c.words (base_of k i + j) (base_of k a + b) _ (λ q. others i j x a b y ei ea h l d q);
+    others = λ a b y ea l d. slice_get-set_other c.words (base_of k i + j) (base_of k a + b) _ (λ q. others i j x a b y ei ea h l d q);
   }) a n r (at_code k ls m s c rel _ e).2.1
     where
       others : (i j : ℕ) (x : Module) (a b : ℕ) (y : Module) → live_at s.links.modules i ≡ Some x → live_at s.links.modules a ≡ Some y → j < size_of k i → b ≤ size_of k a → ((a ≡ i) × (b ≡ j) → ⊥) → base_of k a + b ≡ base_of k i + j → ⊥

@@ -2,7 +2,7 @@
 use Rattle.std.specs.List.{AllByRecursion}
 use Rattle.std.specs.Prelude.{Some, slice_get}
 use Rattle.std.proofs.Common.{◌≡◌, ℕ, zero, suc, ◌<◌, ◌≤◌, true, List, [], ◌∷◌, ◌++◌, map, length, replicate, sym, refl, ap, subst, arith}
-use Rattle.base.proofs.Lists.{each_append}
+use Rattle.base.proofs.Lists.{all_append}
 use Rattle.library.specs.Library.{Library, any_version, main_name}
 use Rattle.library.specs.Fine.{LibraryFine}
 use Rattle.library.proofs.Reading.{reads_fine}
@@ -51,9 +51,9 @@ map_same : {A B : Type 0} (f : A → B) (n : ℕ) (x : A) → replicate n (f x) 
 map_same f zero x = refl
 map_same f (suc n) x = ap (λ z. f x ∷ z) (map_same f n x)
 
-each_same : {A : Type 0} (P : A → Type 0) (n : ℕ) (x : A) → P x → AllByRecursion P (replicate n x)
-each_same P zero x p = tt
-each_same P (suc n) x p = (p, each_same P n x p)
+all_same : {A : Type 0} (P : A → Type 0) (n : ℕ) (x : A) → P x → AllByRecursion P (replicate n x)
+all_same P zero x p = tt
+all_same P (suc n) x p = (p, all_same P n x p)
 
 pub begin : Begins
 begin t ws gap ins l ls m q er few em el = (
@@ -72,11 +72,11 @@ begin t ws gap ins l ls m q er few em el = (
       there = refl;
       next = nowhere_step (l ∷ ls) (RoomOf (length ws) gap) s refl;
       frames = refl;
-      fits = (each_append (FitsPlace kq) q.calls (place_at 0 m ∷ []) fit_calls (main_fits, tt), omega arith);
+      fits = (all_append (FitsPlace kq) q.calls (place_at 0 m ∷ []) fit_calls (main_fits, tt), omega arith);
       matches = record { links = refl; rows = refl };
       idle = record {
         mem = mem';
-        regs = record { are = map_same (addr kq) 8 (num 0); fit = each_same (Fits kq) 8 (num 0) (omega arith) };
+        regs = record { are = map_same (addr kq) 8 (num 0); fit = all_same (Fits kq) 8 (num 0) (omega arith) };
         backs = record { rest = []; are = refl; fit = tt };
         pushed = record { are = refl; fit = tt };
         ins = refl;

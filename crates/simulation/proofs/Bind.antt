@@ -1,8 +1,9 @@
 -- A slot that is settled at the first call through it.
+use Rattle.std.proofs.lemmas.Option.{slice_get_within}
 use Rattle.std.specs.Prelude.{None, Option, Some, slice_get, slice_set}
 use Rattle.std.proofs.Common.{◌≡◌, ℕ, ◌+◌, ◌<◌, List, length, sym, refl, ap, ◌∙◌, subst, arith}
 use Rattle.base.proofs.Choices.{some_is, opt_some}
-use Rattle.base.proofs.Lists.{nth_lt, put_same, put_other}
+use Rattle.base.proofs.Lists.{slice_get-set_same, slice_get-set_other}
 use Rattle.library.specs.Library.{Symbol, Call, slot, Library}
 use Rattle.links.specs.Links.{Place, Module, Room}
 use Rattle.links.specs.Scope.{live_at, scope, resolve}
@@ -70,13 +71,13 @@ module _ (k : Layout) (ls : List Library) (m : Room) (s : State) (c : Processor)
   held_one a h g = rw (live', cells') g
     where
       live' : live_at s'.links.modules i ≡ Some x'
-      live' = ap (λ ms. live_at ms i) modules_are ∙ live_from (slice_set s.links.modules i x') i x' (put_same s.links.modules i x' (nth_lt s.links.modules i x.0 module_at)) (live_inv s.links.modules i x.0 x.2).1
+      live' = ap (λ ms. live_at ms i) modules_are ∙ live_from (slice_set s.links.modules i x') i x' (slice_get-set_same s.links.modules i x' (slice_get_within s.links.modules i x.0 module_at)) (live_inv s.links.modules i x.0 x.2).1
 
       cells' : slice_get s'.cells i ≡ Some (slice_set x.1 j there)
-      cells' = ap (λ cs. slice_get cs i) (opt_some (slice_get s.cells i) s.cells (λ hs. slice_set s.cells i (slice_set hs j there)) x.1 x.3) ∙ put_same s.cells i (slice_set x.1 j there) (nth_lt s.cells i x.1 x.3)
+      cells' = ap (λ cs. slice_get cs i) (opt_some (slice_get s.cells i) s.cells (λ hs. slice_set s.cells i (slice_set hs j there)) x.1 x.3) ∙ slice_get-set_same s.cells i (slice_set x.1 j there) (slice_get_within s.cells i x.1 x.3)
 
   still : state.held_at s' s'.core.here.host s'.core.here.cell ≡ Some (code (Call j))
-  still = held_one s.core.here.cell (code (Call j)) (put_other x.1 j s.core.here.cell there other ∙ old)
+  still = held_one s.core.here.cell (code (Call j)) (slice_get-set_other x.1 j s.core.here.cell there other ∙ old)
     where
       old : slice_get x.1 s.core.here.cell ≡ Some (code (Call j))
       old = let w = held_inv s i s.core.here.cell (code (Call j)) e in let z : w.1 ≡ x.1 = some_is (sym w.3 ∙ x.3) in ap (λ hs. slice_get hs s.core.here.cell) (sym z) ∙ w.4
@@ -85,10 +86,10 @@ module _ (k : Layout) (ls : List Library) (m : Room) (s : State) (c : Processor)
       other g = let w : Some (code (Call j)) ≡ Some (link y None) = sym old ∙ ap (slice_get x.1) g ∙ x.4 in let z : ◌≡◌ {A = ℕ} 0 1 = cc in omega arith
 
   settled : steps.own s' j ≡ Some there
-  settled = held_one j there (put_same x.1 j there (nth_lt x.1 j (link y None) x.4))
+  settled = held_one j there (slice_get-set_same x.1 j there (slice_get_within x.1 j (link y None) x.4))
 
   slot_in : j < size_of k i
-  slot_in = omega (arith, nth_lt x.1 j (link y None) x.4, (rel.mem.cells i x.0 x.1 x.2 x.3).sized)
+  slot_in = omega (arith, slice_get_within x.1 j (link y None) x.4, (rel.mem.cells i x.0 x.1 x.2 x.3).sized)
 
   pub bind_step : steps.step ls m s ≡ steps.pushes s' p
   bind_step = m_step k ls m s c rel _ e ∙ ap (steps.calls_through s j) q ∙ opt_some _ (lost s) (steps.binds_to s j y) p r

@@ -1,9 +1,10 @@
 -- What a symbol means is a cell of a live module, and has an address.
+use Rattle.std.proofs.lemmas.Option.{slice_get_within}
 use Rattle.std.specs.List.{AllByRecursion}
 use Rattle.std.specs.Prelude.{None, Option, Some}
 use Rattle.std.proofs.Common.{◌≡◌, ℕ, ◌<◌, List, [], ◌∷◌, length, refl, arith}
 use Rattle.base.specs.Choices.{opt}
-use Rattle.base.proofs.Lists.{nth_lt, each_append}
+use Rattle.base.proofs.Lists.{all_append}
 use Rattle.library.specs.Library.{Symbol, Library}
 use Rattle.library.specs.Fine.{LibraryFine}
 use Rattle.links.specs.Links.{Place, Module}
@@ -15,7 +16,7 @@ use Rattle.simulation.specs.Layout.{Layout, size_of, Ground, Fits, FitsPlace}
 
 module _ (k : Layout) (ms : List Module) (u total : ℕ) (g : Ground k ms u total) where
   lookup_fits : (me : ℕ) (y : Symbol) (js : List ℕ) (p : Place) → lookup ms me y js ≡ Some p → (p.host < length k.bases) × (p.cell < size_of k p.host)
-  lookup_fits me y js p e = let x = look_in ms me y js p e in let d = find_def_in x.1 x.0.lib.defs y (length x.0.lib.cells) p.cell (g.fine p.host x.0 x.2).defs x.4 in (omega (arith, nth_lt ms p.host x.0 x.2, g.count), omega (arith, d, g.sized p.host x.0 x.2))
+  lookup_fits me y js p e = let x = look_in ms me y js p e in let d = find_def_in x.1 x.0.lib.defs y (length x.0.lib.cells) p.cell (g.fine p.host x.0 x.2).defs x.4 in (omega (arith, slice_get_within ms p.host x.0 x.2, g.count), omega (arith, d, g.sized p.host x.0 x.2))
 
   -- n cells behind it
   pub place_fits : (me n : ℕ) (y : Symbol) (js : List ℕ) → n < 4294967296 → Fits k (place_of (lookup ms me y js) n)
@@ -35,8 +36,8 @@ module _ (k : Layout) (ms : List Module) (u total : ℕ) (g : Ground k ms u tota
 
   pub calls_fit : (f : Library → List ℕ) → ((l : Library) → LibraryFine l → AllByRecursion (λ j. j < length l.cells) (f l)) → (js : List ℕ) → AllByRecursion (FitsPlace k) (calls_of f ms js)
   calls_fit f h [] = tt
-  calls_fit f h (j ∷ js) = each_append (FitsPlace k) (opt (live_at ms j) [] (λ x. places j (f x.lib))) (calls_of f ms js) (go (live_at ms j) refl) (calls_fit f h js)
+  calls_fit f h (j ∷ js) = all_append (FitsPlace k) (opt (live_at ms j) [] (λ x. places j (f x.lib))) (calls_of f ms js) (go (live_at ms j) refl) (calls_fit f h js)
     where
       go : (o : Option Module) → live_at ms j ≡ o → AllByRecursion (FitsPlace k) (opt o [] (λ x. places j (f x.lib)))
       go None e = tt
-      go (Some x) e = let p = live_inv ms j x e in spots_fit j (f x.lib) (omega (arith, nth_lt ms j x p.0, g.count)) (rw (g.sized j x p.0) (h x.lib (g.fine j x p.0)))
+      go (Some x) e = let p = live_inv ms j x e in spots_fit j (f x.lib) (omega (arith, slice_get_within ms j x p.0, g.count)) (rw (g.sized j x p.0) (h x.lib (g.fine j x p.0)))

@@ -1,10 +1,11 @@
 -- Modules that come behind the others, in order.
+use Rattle.std.proofs.lemmas.Option.{slice_get_within}
 use Rattle.std.specs.List.{AllByRecursion}
 use Rattle.std.specs.Prelude.{Some}
 use Rattle.std.proofs.Common.{◌≡◌, ℕ, suc, ◌+◌, ◌<◌, ◌≤◌, ◌⊎◌, List, [], ◌∷◌, ◌++◌, map, length, sym, refl, ap, ◌∙◌, subst, inl, inr, ⊎_elim, append_assoc, append-nil, arith}
 use Rattle.std.proofs.lemmas.Bool.{cases_lt}
 use Rattle.std.proofs.lemmas.List.{get_or_append_left, get_or_push, length_push, length-append}
-use Rattle.base.proofs.Lists.{nth_lt, nth_push}
+use Rattle.base.proofs.Lists.{slice_get_push}
 use Rattle.library.specs.Fine.{LibraryFine}
 use Rattle.links.specs.Links.{Module, cells_in}
 use Rattle.links.specs.Scope.{live_at}
@@ -48,7 +49,7 @@ module _ (k : Layout) (ms : List Module) (u total b : ℕ) (y : Module) (g : Gro
 
   -- a live module is an old one or the new one
   old_or_new : (i : ℕ) (x : Module) → live_at (ms ++ (y ∷ [])) i ≡ Some x → ((live_at ms i ≡ Some x) × (i < length k.bases)) ⊎ (i ≡ length k.bases)
-  old_or_new i x e = let p = live_inv (ms ++ (y ∷ [])) i x e in ⊎_elim (λ q. inl (live_from ms i x q p.1, omega (arith, nth_lt ms i x q, g.count))) (λ q. inr (q.0 ∙ g.count)) (nth_push ms y i x p.0)
+  old_or_new i x e = let p = live_inv (ms ++ (y ∷ [])) i x e in ⊎_elim (λ q. inl (live_from ms i x q p.1, omega (arith, slice_get_within ms i x q, g.count))) (λ q. inr (q.0 ∙ g.count)) (slice_get_push ms y i x p.0)
 
   ground_more : Ground (more k b (cells_in y)) (ms ++ (y ∷ [])) (suc (b + cells_in y)) total
   ground_more = record {
@@ -57,8 +58,8 @@ module _ (k : Layout) (ms : List Module) (u total b : ℕ) (y : Module) (g : Gro
     one = omega arith;
     room = omega (arith, h₂);
     count = length_push ms y ∙ rw g.count (sym (length_push k.bases b));
-    sized = λ i x e. ⊎_elim (λ q. size_old i (omega (arith, nth_lt ms i x q, g.count)) ∙ g.sized i x q) (λ q. rw (q.0 ∙ g.count) (size_new ∙ ap cells_in q.1)) (nth_push ms y i x e);
-    fine = λ i x e. ⊎_elim (λ q. g.fine i x q) (λ q. subst (λ (z : Module). LibraryFine z.lib) q.1 fine) (nth_push ms y i x e);
+    sized = λ i x e. ⊎_elim (λ q. size_old i (omega (arith, slice_get_within ms i x q, g.count)) ∙ g.sized i x q) (λ q. rw (q.0 ∙ g.count) (size_new ∙ ap cells_in q.1)) (slice_get_push ms y i x e);
+    fine = λ i x e. ⊎_elim (λ q. g.fine i x q) (λ q. subst (λ (z : Module). LibraryFine z.lib) q.1 fine) (slice_get_push ms y i x e);
   }
     where
       below : (i : ℕ) (x : Module) → live_at (ms ++ (y ∷ [])) i ≡ Some x → base_of (more k b (cells_in y)) i + size_of (more k b (cells_in y)) i < suc (b + cells_in y)

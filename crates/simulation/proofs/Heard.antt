@@ -1,4 +1,6 @@
 -- What a step of the processor tells, and what the loader may rely on then.
+use Rattle.std.proofs.lemmas.List.{length-set}
+use Rattle.std.proofs.lemmas.Option.{slice_get_within}
 use Rattle.std.specs.List.{AllByRecursion}
 use Rattle.std.specs.Option.{option_map}
 use Rattle.std.specs.Prelude.{None, Option, Some, slice_get, slice_set}
@@ -6,8 +8,8 @@ use Rattle.std.proofs.Common.{◌≡◌, ℕ, suc, ◌+◌, ◌<◌, ◌≤◌, 
 use Rattle.std.proofs.lemmas.Bool.{eq-eqb, cases_eq}
 use Rattle.base.specs.Choices.{opt, guard}
 use Rattle.base.specs.Names.{Name}
-use Rattle.base.proofs.Choices.{pick_true, pick_false, opt_none, opt_some}
-use Rattle.base.proofs.Lists.{length-put, nth_lt, each_nth}
+use Rattle.base.proofs.Choices.{cond_true, cond_false, opt_none, opt_some}
+use Rattle.base.proofs.Lists.{all_slice_get}
 use Rattle.library.specs.Library.{Symbol, Instruction, Set, Get, Sto, Own, Add, Sub, Mul, Less, Same, Move, Jump, If0, Call, Callr, Ret, Push, Pop, Out, In, Open, Find, Close, End, Library, label_at, any_version}
 use Rattle.library.specs.Fine.{Fine, LibraryFine}
 use Rattle.links.specs.Links.{Place, Module, Group, Links}
@@ -81,7 +83,7 @@ closed_length gs h = go (slice_get gs h)
   where
     go : (o : Option Group) → length (opt o gs (λ g. slice_set gs h (closed_group g))) ≡ length gs
     go None = refl
-    go (Some g) = length-put gs h (closed_group g)
+    go (Some g) = length-set gs h (closed_group g)
 
 module _ (w : World) (k : Layout) (i n : ℕ) (z : State) (c : Processor) (fine : AllByRecursion LibraryFine w.libs) (room : w.memory.words ≡ length c.words) (made : i ≤ n + n) (e : at w n ≡ goes z) (rel : Rel w.libs k z c) where
   abbrev l : Loader
@@ -100,7 +102,7 @@ module _ (w : World) (k : Layout) (i n : ℕ) (z : State) (c : Processor) (fine 
     where
       go : (o : Option Value) → slice_get z.core.regs r ≡ o → Fell (at w) c.outs ⊎ ((v : ℕ) × (slice_get c.regs r ≡ Some v) × (v < Cpu.all) × (at w (suc n) ≡ f v))
       go None q = inl (nowhere_fell (next_is w n z e ∙ s ∙ ap (λ o. values.on_num z o f) q))
-      go (Some (num v)) q = inr (v, reg_is w.libs k z c rel r ∙ ap (option_map (addr k)) q, each_nth (Fits k) z.core.regs r (num v) rel.regs.fit q, next_is w n z e ∙ s ∙ ap (λ o. values.on_num z o f) q)
+      go (Some (num v)) q = inr (v, reg_is w.libs k z c rel r ∙ ap (option_map (addr k)) q, all_slice_get (Fits k) z.core.regs r (num v) rel.regs.fit q, next_is w n z e ∙ s ∙ ap (λ o. values.on_num z o f) q)
       go (Some (place a b)) q = inl (nowhere_fell (next_is w n z e ∙ s ∙ ap (λ o. values.on_num z o f) q))
 
   module _ (here_in : z.core.here.cell < size_of k z.core.here.host) where
@@ -140,8 +142,8 @@ module _ (w : World) (k : Layout) (i n : ℕ) (z : State) (c : Processor) (fine 
       small = hr;
       h = x.0;
       group = x.1;
-      refused = λ t. gave r (num 0) (omega arith) (x.3 ∙ pick_false (steps.may_close z x.0) _ _ (may x.0 ∙ t));
-      shut = λ t. shut x.0 (x.3 ∙ pick_true (steps.may_close z x.0) _ _ (may x.0 ∙ t));
+      refused = λ t. gave r (num 0) (omega arith) (x.3 ∙ cond_false (steps.may_close z x.0) _ _ (may x.0 ∙ t));
+      shut = λ t. shut x.0 (x.3 ∙ cond_true (steps.may_close z x.0) _ _ (may x.0 ∙ t));
     })) (num_or_fell r _ s)
       where
         shut_state : ℕ → State
@@ -278,7 +280,7 @@ module _ (w : World) (k : Layout) (i n : ℕ) (z : State) (c : Processor) (fine 
       kept = rel.mem.cells me x.0 x.1 x.2 x.3
 
       inside : j < size_of k me
-      inside = omega (arith, nth_lt x.1 j (link y None) x.4, kept.sized)
+      inside = omega (arith, slice_get_within x.1 j (link y None) x.4, kept.sized)
 
       alone : (i' : ℕ) (x' : Module) (j' : ℕ) → live_at z.links.modules i' ≡ Some x' → base_of k me + j ≡ base_of k i' + j' → j' < size_of k i' → (i' ≡ me) × (j' ≡ j)
       alone i' x' j' v q h = ⊎_elim (λ t. (t, omega (arith, ap (base_of k) t))) (λ t. absurd (no_two w.libs k z.links z.cells c.words rel.mem me j i' j' x.0 x' x.2 v inside h t (sym q))) (cases_eq i' me)

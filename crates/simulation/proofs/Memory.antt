@@ -1,10 +1,12 @@
 -- Cells and words that are written; no two live cells share an address.
+use Rattle.std.proofs.lemmas.List.{length-set}
+use Rattle.std.proofs.lemmas.Option.{slice_get_within}
 use Rattle.std.specs.Prelude.{None, Option, Some, cond, slice_get, slice_set}
 use Rattle.std.proofs.Common.{◌≡◌, ℕ, ◌+◌, ◌%◌, ◌<◌, eqb, List, length, sym, refl, ap, ◌∙◌, subst, subst₂, ⊎_elim, arith}
 use Rattle.std.proofs.lemmas.Bool.{ne_eqb, cases_eq}
 use Rattle.base.specs.Choices.{opt}
 use Rattle.base.proofs.Choices.{some_is, opt_some}
-use Rattle.base.proofs.Lists.{length-put, nth_lt, put_same, put_other}
+use Rattle.base.proofs.Lists.{slice_get-set_same, slice_get-set_other}
 use Rattle.library.specs.Library.{Symbol, Sto, Call, slot, Library}
 use Rattle.library.specs.Fine.{Fine}
 use Rattle.links.specs.Links.{place_at, Module, Links, Room}
@@ -27,13 +29,13 @@ module _ (ls : List Library) (k : Layout) (ks : Links) (css : List (List Held)) 
   no_two i j a b x y ei ea hj hb d e = ⊎_elim (λ l. omega arith) (λ l. omega arith) (mem.ground.apart.apart a i y x ea ei d)
 
   pub there : (i : ℕ) (x : Module) → live_at ks.modules i ≡ Some x → i < length k.bases
-  there i x e = omega (arith, nth_lt ks.modules i x (live_inv ks.modules i x e).0, mem.ground.count)
+  there i x e = omega (arith, slice_get_within ks.modules i x (live_inv ks.modules i x e).0, mem.ground.count)
 
   -- a cell written, and its word
   pub mem_put : (i j w : ℕ) (x : Module) (hs : List Held) (old h : Held) → live_at ks.modules i ≡ Some x → slice_get css i ≡ Some hs → slice_get hs j ≡ Some old → Holds ls k (size_of k i) j h w → ((y : Symbol) (o : Option Value) → h ≡ link y o → slice_get x.lib.cells j ≡ Some (slot y)) → Mem ls k ks (steps.put_cell css i j h) (slice_set ws (base_of k i + j) w)
   mem_put i j w x hs old h ei es ej hw sl = rw (opt_some (slice_get css i) css (λ hs. slice_set css i (slice_set hs j h)) hs es) (record {
-    ground = rw (length-put ws (base_of k i + j) w) mem.ground;
-    held = length-put css i (slice_set hs j h) ∙ mem.held;
+    ground = rw (length-set ws (base_of k i + j) w) mem.ground;
+    held = length-set css i (slice_set hs j h) ∙ mem.held;
     numbered = mem.numbered;
     cells = λ a z gs e q. ⊎_elim (λ p. here a z gs p e q) (λ p. other a z gs p e q) (cases_eq a i);
   })
@@ -42,7 +44,7 @@ module _ (ls : List Library) (k : Layout) (ks : Links) (css : List (List Held)) 
       kx = mem.cells i x hs ei es
 
       hj : j < size_of k i
-      hj = omega (arith, nth_lt hs j old ej, kx.sized)
+      hj = omega (arith, slice_get_within hs j old ej, kx.sized)
 
       hw' : (base_of k i + j) < length ws
       hw' = omega (arith, hj, mem.ground.placed.last i (there i x ei))
@@ -51,17 +53,17 @@ module _ (ls : List Library) (k : Layout) (ks : Links) (css : List (List Held)) 
       cell_here b g e = ⊎_elim same_cell other_cell (cases_eq b j)
         where
           same_cell : b ≡ j → (u : ℕ) × (slice_get (slice_set ws (base_of k i + j) w) (base_of k i + b) ≡ Some u) × Holds ls k (size_of k i) b g u
-          same_cell q = let p : slice_get (slice_set hs j h) j ≡ Some h = put_same hs j h (nth_lt hs j old ej) in let r : h ≡ g = cc in rw q (w, put_same ws (base_of k i + j) w hw', rw r at hw)
+          same_cell q = let p : slice_get (slice_set hs j h) j ≡ Some h = slice_get-set_same hs j h (slice_get_within hs j old ej) in let r : h ≡ g = cc in rw q (w, slice_get-set_same ws (base_of k i + j) w hw', rw r at hw)
 
           other_cell : (b ≡ j → ⊥) → (u : ℕ) × (slice_get (slice_set ws (base_of k i + j) w) (base_of k i + b) ≡ Some u) × Holds ls k (size_of k i) b g u
-          other_cell q = let t = kx.cell b g (sym (put_other hs j b h q) ∙ e) in (t.0, put_other ws (base_of k i + j) (base_of k i + b) w (λ r. q (omega arith)) ∙ t.1, t.2)
+          other_cell q = let t = kx.cell b g (sym (slice_get-set_other hs j b h q) ∙ e) in (t.0, slice_get-set_other ws (base_of k i + j) (base_of k i + b) w (λ r. q (omega arith)) ∙ t.1, t.2)
 
       slot_here : (b : ℕ) (y : Symbol) (o : Option Value) → slice_get (slice_set hs j h) b ≡ Some (link y o) → slice_get x.lib.cells b ≡ Some (slot y)
-      slot_here b y o e = ⊎_elim (λ q. ap (slice_get x.lib.cells) q ∙ sl y o (some_is (sym (put_same hs j h (nth_lt hs j old ej)) ∙ ap (slice_get (slice_set hs j h)) (sym q) ∙ e))) (λ q. kx.slots b y o (sym (put_other hs j b h q) ∙ e)) (cases_eq b j)
+      slot_here b y o e = ⊎_elim (λ q. ap (slice_get x.lib.cells) q ∙ sl y o (some_is (sym (slice_get-set_same hs j h (slice_get_within hs j old ej)) ∙ ap (slice_get (slice_set hs j h)) (sym q) ∙ e))) (λ q. kx.slots b y o (sym (slice_get-set_other hs j b h q) ∙ e)) (cases_eq b j)
 
       here : (a : ℕ) (z : Module) (gs : List Held) → a ≡ i → live_at ks.modules a ≡ Some z → slice_get (slice_set css i (slice_set hs j h)) a ≡ Some gs → Kept ls k (slice_set ws (base_of k i + j) w) a z gs
       here a z gs p e q = subst₂ (λ b g. Kept ls k (slice_set ws (base_of k i + j) w) b z g) (sym p) hg (subst (λ y. Kept ls k (slice_set ws (base_of k i + j) w) i y (slice_set hs j h)) xz (record {
-        sized = length-put hs j h ∙ kx.sized;
+        sized = length-set hs j h ∙ kx.sized;
         slots = slot_here;
         cell = cell_here;
       }))
@@ -70,13 +72,13 @@ module _ (ls : List Library) (k : Layout) (ks : Links) (css : List (List Held)) 
           xz = some_is (sym ei ∙ ap (live_at ks.modules) (sym p) ∙ e)
 
           hg : slice_set hs j h ≡ gs
-          hg = some_is (sym (put_same css i (slice_set hs j h) (nth_lt css i hs es)) ∙ ap (slice_get (slice_set css i (slice_set hs j h))) (sym p) ∙ q)
+          hg = some_is (sym (slice_get-set_same css i (slice_set hs j h) (slice_get_within css i hs es)) ∙ ap (slice_get (slice_set css i (slice_set hs j h))) (sym p) ∙ q)
 
       other : (a : ℕ) (z : Module) (gs : List Held) → (a ≡ i → ⊥) → live_at ks.modules a ≡ Some z → slice_get (slice_set css i (slice_set hs j h)) a ≡ Some gs → Kept ls k (slice_set ws (base_of k i + j) w) a z gs
-      other a z gs p e q = let kz = mem.cells a z gs e (sym (put_other css i a (slice_set hs j h) p) ∙ q) in record {
+      other a z gs p e q = let kz = mem.cells a z gs e (sym (slice_get-set_other css i a (slice_set hs j h) p) ∙ q) in record {
         sized = kz.sized;
         slots = kz.slots;
-        cell = λ b g eb. let t = kz.cell b g eb in (t.0, put_other ws (base_of k i + j) (base_of k a + b) w (no_two i j a b x z ei e hj (omega (arith, nth_lt gs b g eb, kz.sized)) p) ∙ t.1, t.2);
+        cell = λ b g eb. let t = kz.cell b g eb in (t.0, slice_get-set_other ws (base_of k i + j) (base_of k a + b) w (no_two i j a b x z ei e hj (omega (arith, slice_get_within gs b g eb, kz.sized)) p) ∙ t.1, t.2);
       }
 
 module _ (ls : List Library) (k : Layout) (s : State) (c : Processor) (rel : Rel ls k s c) where

@@ -1,4 +1,6 @@
 -- Instructions that the processor does by itself.
+use Rattle.std.proofs.lemmas.List.{map-set}
+use Rattle.std.proofs.lemmas.Option.{slice_get-map}
 use Rattle.std.specs.List.{AllByRecursion}
 use Rattle.std.specs.Option.{option_map}
 use Rattle.std.specs.Prelude.{None, Option, Some, cond, slice_get, slice_set}
@@ -6,7 +8,7 @@ use Rattle.std.proofs.Common.{◌≡◌, ℕ, suc, ◌+◌, ◌%◌, ◌<◌, Bo
 use Rattle.std.proofs.lemmas.Bool.{ne_eqb}
 use Rattle.base.specs.Choices.{opt}
 use Rattle.base.proofs.Choices.{on_some_inv}
-use Rattle.base.proofs.Lists.{nth-map, map-put, each_nth, each_put}
+use Rattle.base.proofs.Lists.{all_slice_get, all_set}
 use Rattle.library.specs.Library.{Set, Get, Own, Move, Jump, If0, Callr, Ret, Push, Pop, Out, In, Library}
 use Rattle.library.specs.Fine.{Fine}
 use Rattle.links.specs.Links.{Place, place_at, Module, Room}
@@ -41,7 +43,7 @@ addr_word k t v l f = omega (arith, addr_small k t v l f)
 
 -- a value that is put among others
 pub values_put : (k : Layout) (vs : List Value) (ns : List ℕ) (r : ℕ) (v : Value) → Values k vs ns → Fits k v → Values k (slice_set vs r v) (slice_set ns r (addr k v))
-values_put k vs ns r v x f = record { are = rw (x.are, map-put) refl; fit = each_put (Fits k) vs r v x.fit f }
+values_put k vs ns r v x f = record { are = rw (x.are, map-set) refl; fit = all_set (Fits k) vs r v x.fit f }
 
 -- a cell that holds something, taken apart
 pub held_inv : (s : State) (i j : ℕ) (h : Held) → state.held_at s i j ≡ Some h → (x : Module) × (hs : List Held) × (live_at s.links.modules i ≡ Some x) × (slice_get s.cells i ≡ Some hs) × (slice_get hs j ≡ Some h)
@@ -74,7 +76,7 @@ module _ (ls : List Library) (k : Layout) (s : State) (c : Processor) (rel : Rel
 
   -- what a register holds, as a word
   pub reg_is : (a : ℕ) → slice_get c.regs a ≡ option_map (addr k) (slice_get s.core.regs a)
-  reg_is a = ap (λ rs. slice_get rs a) rel.regs.are ∙ nth-map (addr k) s.core.regs a
+  reg_is a = ap (λ rs. slice_get rs a) rel.regs.are ∙ slice_get-map (addr k) s.core.regs a
 
   -- a register that is read
   pub on_reg_any : (P : Next → Did → Type 0) (a : ℕ) (f : Value → Next) (g : ℕ → Did) → P (wrong s) (Cpu.did c Cpu.Stuck) → ((v : Value) → Fits k v → P (f v) (g (addr k v))) → P (values.on_val s (values.reg s a) f) (Cpu.reg c a g)
@@ -82,7 +84,7 @@ module _ (ls : List Library) (k : Layout) (s : State) (c : Processor) (rel : Rel
     where
       go : (o : Option Value) → slice_get s.core.regs a ≡ o → P (values.on_val s o f) (opt (option_map (addr k) o) (Cpu.did c Cpu.Stuck) g)
       go None e = fell
-      go (Some v) e = h v (each_nth (Fits k) s.core.regs a v rel.regs.fit e)
+      go (Some v) e = h v (all_slice_get (Fits k) s.core.regs a v rel.regs.fit e)
 
   pub on_reg : (a : ℕ) (f : Value → Next) (g : ℕ → Did) → ((v : Value) → Fits k v → Good ls k s c.outs (f v) (g (addr k v))) → Good ls k s c.outs (values.on_val s (values.reg s a) f) (Cpu.reg c a g)
   on_reg a f g h = on_reg_any (Good ls k s c.outs) a f g (sym rel.outs) h
@@ -92,7 +94,7 @@ module _ (ls : List Library) (k : Layout) (s : State) (c : Processor) (rel : Rel
     where
       go : (o : Option Value) → slice_get s.core.regs a ≡ o → Good ls k s c.outs (values.on_num s o f) (opt (option_map (addr k) o) (Cpu.did c Cpu.Stuck) g)
       go None e = (sym rel.outs)
-      go (Some (num n)) e = h n (each_nth (Fits k) s.core.regs a (num n) rel.regs.fit e)
+      go (Some (num n)) e = h n (all_slice_get (Fits k) s.core.regs a (num n) rel.regs.fit e)
       go (Some (place i j)) e = (sym rel.outs)
 
   module _ (m : Room) (low : s.core.here.cell < size_of k s.core.here.host) where

@@ -1,9 +1,9 @@
 -- One step of the processor, and what it is of the meaning.
+use Rattle.std.proofs.lemmas.Option.{slice_get_within}
 use Rattle.std.specs.List.{AllByRecursion}
 use Rattle.std.specs.Prelude.{None, Option, Some, cond, slice_get}
 use Rattle.std.proofs.Common.{◌≡◌, ℕ, ◌+◌, ◌<◌, Bool, true, false, eqb, List, [], ◌∷◌, ◌++◌, map, sym, refl, ap, ◌∙◌, arith}
 use Rattle.std.proofs.lemmas.Bool.{ne_eqb}
-use Rattle.base.proofs.Lists.{nth_lt}
 use Rattle.library.specs.Library.{Instruction, Set, Get, Sto, Own, Add, Sub, Mul, Less, Same, Move, Jump, If0, Call, Callr, Ret, Push, Pop, Out, In, Open, Find, Close, End, Library}
 use Rattle.library.specs.Fine.{Fine, InCells}
 use Rattle.links.specs.Links.{Room}
@@ -41,7 +41,7 @@ module _ (k : Layout) (ls : List Library) (m : Room) (s : State) (c : Processor)
     c_step = let w : slice_get c.words c.pc ≡ Some (encode o s.core.here.cell) = ap (slice_get c.words) rel.here.is ∙ at_code.1 ∙ ap Some at_code.2.0 in rw (ne_eqb c.pc 0 (λ q. omega (arith, rel.here.is, rel.mem.ground.placed.first s.core.here.host rel.here.fit.0)), w) (ap (Cpu.does c) (fields_back o s.core.here.cell at_code.2.1))
 
     pub low : s.core.here.cell < size_of k s.core.here.host
-    low = let x = held_inv s s.core.here.host s.core.here.cell (code o) e in omega (arith, nth_lt x.1 s.core.here.cell (code o) x.4, (rel.mem.cells s.core.here.host x.0 x.1 x.2 x.3).sized)
+    low = let x = held_inv s s.core.here.host s.core.here.cell (code o) e in omega (arith, slice_get_within x.1 s.core.here.cell (code o) x.4, (rel.mem.cells s.core.here.host x.0 x.1 x.2 x.3).sized)
 
   by_good : (o : Instruction) → state.held_at s s.core.here.host s.core.here.cell ≡ Some (code o) → Good ls k s c.outs (steps.does ls m s o) (Cpu.does c (fields o s.core.here.cell)) → Turn k ls m s c
   by_good o e g = from_good _ _ (m_step _ e) (c_step o e) g

@@ -1,8 +1,9 @@
 -- A layout with more modules: what was there keeps its addresses.
+use Rattle.std.proofs.lemmas.Option.{slice_get_within}
 use Rattle.std.specs.List.{AllByRecursion}
 use Rattle.std.specs.Prelude.{None, Some, slice_get}
 use Rattle.std.proofs.Common.{◌≡◌, ℕ, ◌+◌, ◌<◌, ◌≤◌, List, [], ◌∷◌, ◌++◌, length, sym, refl, ap, ◌∙◌, arith}
-use Rattle.base.proofs.Lists.{nth_lt, map_alike}
+use Rattle.base.proofs.Lists.{map_alike}
 use Rattle.library.specs.Library.{Library}
 use Rattle.links.specs.Links.{Place, Module}
 use Rattle.meaning.specs.State.{Value, num, place, Held, val, link, label, code, Sequel, gives, drops, ends, stops, Frame, back, pending}
@@ -27,9 +28,9 @@ module _ (k k' : Layout) (w : Wider k k') where
   addr_wider (num n) f = refl
   addr_wider (place i j) f = rw (w.base i f.0)
 
-  each_place_wider : (ps : List Place) → AllByRecursion (FitsPlace k) ps → AllByRecursion (FitsPlace k') ps
-  each_place_wider [] f = tt
-  each_place_wider (p ∷ ps) f = (fits_place_wider p f.0, each_place_wider ps f.1)
+  all_place_wider : (ps : List Place) → AllByRecursion (FitsPlace k) ps → AllByRecursion (FitsPlace k') ps
+  all_place_wider [] f = tt
+  all_place_wider (p ∷ ps) f = (fits_place_wider p f.0, all_place_wider ps f.1)
 
   fits_sequel_wider : (x : Sequel) → FitsSequel k x → FitsSequel k' x
   fits_sequel_wider (gives r v p) f = (f.0, fits_wider v f.1, fits_place_wider p f.2)
@@ -39,7 +40,7 @@ module _ (k k' : Layout) (w : Wider k k') where
 
   fits_frame_wider : (x : Frame) → FitsFrame k x → FitsFrame k' x
   fits_frame_wider (back p) f = fits_place_wider p f
-  fits_frame_wider (pending ps x) f = (each_place_wider ps f.0, fits_sequel_wider x f.1)
+  fits_frame_wider (pending ps x) f = (all_place_wider ps f.0, fits_sequel_wider x f.1)
 
   addr_back_wider : (x : Frame) → FitsFrame k x → addr_back k' x ≡ addr_back k x
   addr_back_wider (back p) f = rw (w.base p.host f.0)
@@ -70,7 +71,7 @@ module _ (k k' : Layout) (w : Wider k k') where
   kept_wider ls ws ws' i x hs h kx e = record {
     sized = kx.sized ∙ sym (w.size i h);
     slots = kx.slots;
-    cell = λ j g q. let t = kx.cell j g q in let l = nth_lt hs j g q in (t.0, rw (w.base i h) (e j (omega (arith, kx.sized)) ∙ t.1), rw (w.size i h) (holds_wider ls (size_of k i) j g t.0 t.2));
+    cell = λ j g q. let t = kx.cell j g q in let l = slice_get_within hs j g q in (t.0, rw (w.base i h) (e j (omega (arith, kx.sized)) ∙ t.1), rw (w.size i h) (holds_wider ls (size_of k i) j g t.0 t.2));
   }
 
   -- pending calls keep their addresses

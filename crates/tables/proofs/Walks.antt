@@ -1,11 +1,11 @@
 -- Libraries by name, through the buckets of an index.
+use Rattle.std.proofs.lemmas.Option.{get_or_from_slice_get, slice_get-get_or, slice_get_within}
 use Rattle.std.specs.Prelude.{None, Option, Some, cond, slice_get}
 use Rattle.std.proofs.Common.{◌≡◌, ℕ, suc, ◌<◌, ◌≤◌, Bool, true, false, List, [], ◌∷◌, length, get_or, sym, refl, ap, ◌∙◌, subst, ⊎_elim, arith}
 use Rattle.std.proofs.lemmas.List.{get_or-map, get_or_past}
 use Rattle.std.proofs.lemmas.Bool.{cases_lt, cases_eq, cases_Bool}
 use Rattle.base.specs.Choices.{opt}
 use Rattle.base.specs.Names.{Name, same}
-use Rattle.base.proofs.Lists.{nth_lt, nth-get_or, get_or-nth}
 use Rattle.base.proofs.Names.{same_is}
 use Rattle.library.specs.Library.{Library, find_library}
 use Rattle.library.specs.Text.{new_library}
@@ -27,12 +27,12 @@ left None = 0
 left (Some e) = suc e
 
 bucket_is : (ls : List Library) (c k : ℕ) (l : Library) → slice_get ls k ≡ Some l → get_or (buckets c ls) k 0 ≡ bucket_of l.name c
-bucket_is ls c k l e = get_or-map (λ (y : Library). bucket_of y.name c) ls k (new_library []) 0 (nth_lt ls k l e) ∙ ap (λ (y : Library). bucket_of y.name c) (nth-get_or ls k l (new_library []) e)
+bucket_is ls c k l e = get_or-map (λ (y : Library). bucket_of y.name c) ls k (new_library []) 0 (slice_get_within ls k l e) ∙ ap (λ (y : Library). bucket_of y.name c) (get_or_from_slice_get ls k l (new_library []) e)
 
 -- a library of another bucket has another name
 other : (ls : List Library) (x : Name) (c k : ℕ) → k < length ls → (get_or (buckets c ls) k 0 ≡ bucket_of x c → ⊥) → named ls k x ≡ false
 other ls x c k h f =
-    let e = get_or-nth ls k (new_library []) h in
+    let e = slice_get-get_or ls k (new_library []) h in
     ⊎_elim
     (λ (q : same (get_or ls k (new_library [])).name x ≡ true). let r : (get_or ls k (new_library [])).name ≡ x = same_is (get_or ls k (new_library [])).name x q in absurd (f (bucket_is ls c k (get_or ls k (new_library [])) e ∙ ap (λ (y : Name). bucket_of y c) r)))
     (λ (q : same (get_or ls k (new_library [])).name x ≡ false). ap (λ o. opt o false (λ (l : Library). same l.name x)) e ∙ q)

@@ -1,5 +1,5 @@
 use Rattle.std.proofs.Common.{◌%◌, sym, ap, ◌∙◌, mod-lt, arith}
-use Rattle.base.proofs.Choices.{pick_false}
+use Rattle.base.proofs.Choices.{cond_false}
 use Rattle.lent.proofs.index.methods.bucket.Goals as goal
 use Rattle.lent.proofs.Newest.{hash_step, hash_end}
 use Rattle.std.proofs.lemmas.Bool.{ne_eqb}
@@ -9,6 +9,6 @@ loop-byte-preserved c = (hash_step c.args.name.now c.loop-byte.byte-index c.loop
 
 pub returns : goal.returns
 returns c = record {
-  value = ap (λ h. h % c.args.count) (hash_end c.args.name.now c.loop-byte.byte-index c.loop-byte.hash c.loop-byte-test.false c.loop-byte.invariant.0) ∙ sym (pick_false _ _ _ (ne_eqb c.args.count 0 (omega arith)));
+  value = ap (λ h. h % c.args.count) (hash_end c.args.name.now c.loop-byte.byte-index c.loop-byte.hash c.loop-byte-test.false c.loop-byte.invariant.0) ∙ sym (cond_false _ _ _ (ne_eqb c.args.count 0 (omega arith)));
   bound = mod-lt c.loop-byte.hash;
 }

@@ -1,6 +1,6 @@
+use Rattle.std.proofs.lemmas.Option.{get_or_from_slice_get}
 use Rattle.std.specs.Prelude.{slice_get}
 use Rattle.std.proofs.Common.{◌≡◌, ℕ, ◌<◌, ◌≤◌, ◌⊎◌, List, [], length, get_or, Some, None, Option, sym, ap, ◌∙◌, inr, arith, Bor, MatchOption}
-use Rattle.base.proofs.Lists.{nth-get_or}
 use Rattle.lent.proofs.table.Table.get.Goals as goal
 use Rattle.lent.specs.Tables.{rows_in}
 use Rattle.std.specs.Option.{option_map}
@@ -16,5 +16,5 @@ returns g c =
     let rs = rows_in g.row.W c.args.self.now in
     let row = c.in_ok-row.field-0.now in
     let s = c.in_ok-row.ensures in
-    let e : get_or rs c.args.i [] ≡ row = nth-get_or rs c.args.i row [] (sym {b = slice_get rs c.args.i} s.value) in
+    let e : get_or rs c.args.i [] ≡ row = get_or_from_slice_get rs c.args.i row [] (sym {b = slice_get rs c.args.i} s.value) in
     simp c.copied.ensures (word c.args.self.now.len g.row.W c.args.i c.args.j rs row c.get.result s.size.0 s.size.1 e c.get.ensures.lookup)

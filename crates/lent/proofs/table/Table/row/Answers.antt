@@ -1,5 +1,5 @@
 use Rattle.std.proofs.Common.{sym, arith}
-use Rattle.lent.proofs.Rows.{row_end, row_len, rows_nth, rows_past}
+use Rattle.lent.proofs.Rows.{row_end, row_len, rows_slice_get, rows_past}
 use Rattle.lent.proofs.table.Table.row.Goals as goal
 
 pub returns-then-i-self : goal.returns-then-i-self
@@ -22,6 +22,6 @@ returns g c =
     let ws = c.args.self.now.words.now in
     let n = c.args.self.now.len in
     record {
-      value = sym (rows_nth g.row.W ws n c.args.i (omega arith));
+      value = sym (rows_slice_get g.row.W ws n c.args.i (omega arith));
       size = (omega arith, row_len g.row.W ws n c.args.i (omega arith) c.requires.fits);
     }
