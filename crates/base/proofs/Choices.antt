@@ -4,9 +4,6 @@ use Rattle.std.specs.Prelude.{None, Option, Some, cond}
 use Rattle.std.proofs.Common.{◌≡◌, ℕ, Bool, true, false, Ok, Err, Result, refl, ap, arith}
 use Rattle.base.specs.Choices.{opt, on_some, guard, WhereSome, on_ok, WhereOk}
 
-pub some_is : {A : Type 0} {a b : A} → Some a ≡ Some b → a ≡ b
-some_is e = cc
-
 pub cond_true : {A : Type 0} (b : Bool) (x y : A) → b ≡ true → cond b x y ≡ x
 cond_true b x y e = rw e
 
@@ -28,23 +25,7 @@ pub guard_inv : {A : Type 0} (b : Bool) (x y : A) → guard b (Some x) ≡ Some 
 guard_inv true x y e = (refl, cc)
 guard_inv false x y e = let z : ◌≡◌ {A = ℕ} 0 1 = cc in absurd (omega arith)
 
-pub none_not_some : {A : Type 0} {a : A} → None ≡ Some a → ⊥
-none_not_some e = let z : ◌≡◌ {A = ℕ} 0 1 = cc in omega arith
-
--- a statement of the value, one choice after the other
-pub cond_if : {A : Type 0} (P : A → Type 0) (b : Bool) (o p : Option A) → WhereSome P o → WhereSome P p → WhereSome P (cond b o p)
-cond_if P true o p x y = x
-cond_if P false o p x y = y
-
-pub some_if : {A C : Type 0} (P : C → Type 0) (o : Option A) (f : A → Option C) → ((a : A) → o ≡ Some a → WhereSome P (f a)) → WhereSome P (on_some o f)
-some_if P None f h = tt
-some_if P (Some a) f h = h a refl
-
-pub guard_if : {A : Type 0} (P : A → Type 0) (b : Bool) (o : Option A) → (b ≡ true → WhereSome P o) → WhereSome P (guard b o)
-guard_if P true o h = h refl
-guard_if P false o h = tt
-
--- the same for results
+-- a statement of the value of a result, one choice after the other
 pub cond_ok : {A E : Type 0} (P : A → Type 0) (b : Bool) (r q : Result A E) → WhereOk P r → WhereOk P q → WhereOk P (cond b r q)
 cond_ok P true r q x y = x
 cond_ok P false r q x y = y

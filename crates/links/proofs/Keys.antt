@@ -1,11 +1,10 @@
 -- Names are looked up by libraries, lives and groups alone.
-use Rattle.std.proofs.lemmas.Option.{slice_get-map}
+use Rattle.std.proofs.lemmas.Option.{slice_get-map, same_Some}
 use Rattle.std.specs.List.{AllByRecursion}
 use Rattle.std.specs.Option.{option_map}
 use Rattle.std.specs.Prelude.{None, Option, Some, cond, slice_get, slice_set}
 use Rattle.std.proofs.Common.{◌≡◌, ℕ, zero, suc, ◌<◌, Bool, true, false, eqb, List, [], ◌∷◌, ◌++◌, map, sym, refl, ap, ◌∙◌, arith}
 use Rattle.base.specs.Choices.{opt, on_some, guard}
-use Rattle.base.proofs.Choices.{some_is}
 use Rattle.library.specs.Library.{Symbol, Definition}
 use Rattle.links.specs.Symbols.{matches, find_def}
 use Rattle.links.specs.Links.{Place, place_at, Module, Group, Key, key, Links, with_modules}
@@ -99,7 +98,7 @@ pub live_inv : (is : List Module) (j : ℕ) (x : Module) → live_at is j ≡ So
 live_inv is j x e = go (slice_get is j) e
   where
     live_go : (y : Module) (b : Bool) → y.live ≡ b → guard b (Some y) ≡ Some x → (Some y ≡ Some x) × (x.live ≡ true)
-    live_go y true q e = (e, ap (λ z. z.live) (sym (some_is e)) ∙ q)
+    live_go y true q e = (e, ap (λ z. z.live) (sym (same_Some _ _ e)) ∙ q)
     live_go y false q e = let z : ◌≡◌ {A = ℕ} 0 1 = cc in absurd (omega arith)
 
     go : (o : Option Module) → on_some o (λ x. guard x.live (Some x)) ≡ Some x → (o ≡ Some x) × (x.live ≡ true)
@@ -115,4 +114,4 @@ same_key is ms e j x q = go (slice_get ms j) refl
   where
     go : (o : Option Module) → slice_get ms j ≡ o → (y : Module) × (slice_get ms j ≡ Some y) × (key y ≡ key x)
     go None p = let r : None ≡ Some (key x) = sym (ap (option_map key) p) ∙ sym (over_key is ms e j) ∙ ap (option_map key) q in let z : ◌≡◌ {A = ℕ} 0 1 = cc in absurd (omega arith)
-    go (Some y) p = (y, p, some_is (sym (ap (option_map key) p) ∙ sym (over_key is ms e j) ∙ ap (option_map key) q))
+    go (Some y) p = (y, p, same_Some _ _ (sym (ap (option_map key) p) ∙ sym (over_key is ms e j) ∙ ap (option_map key) q))

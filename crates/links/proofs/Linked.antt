@@ -1,14 +1,14 @@
 -- Numbers of modules that are kept stay those of modules, and each cell has one binding.
-use Rattle.std.proofs.ByRecursion.{All-push}
-use Rattle.std.proofs.lemmas.Option.{slice_get_within}
+use Rattle.std.proofs.ByRecursion.{All-push, All-append, All-set}
+use Rattle.std.proofs.lemmas.Option.{slice_get_within, same_Some}
 use Rattle.std.specs.List.{AllByRecursion}
 use Rattle.std.specs.Prelude.{None, Option, Some, cond, filter, slice_get, slice_set}
 use Rattle.std.proofs.Common.{◌≡◌, ℕ, zero, suc, ◌+◌, ◌<◌, ◌≤◌, Bool, true, false, ◌&&◌, eqb, leb, List, [], ◌∷◌, ◌++◌, map, length, sym, refl, ◌∙◌, subst, ⊎_elim, arith}
 use Rattle.base.specs.Choices.{opt, on_some}
 use Rattle.base.specs.Lists.{has}
 use Rattle.base.specs.Names.{Name, same}
-use Rattle.base.proofs.Choices.{some_is, on_some_inv, guard_inv}
-use Rattle.base.proofs.Lists.{all_slice_get, all_set, all_append, all_like}
+use Rattle.base.proofs.Choices.{on_some_inv, guard_inv}
+use Rattle.base.proofs.Lists.{all_slice_get, all_like}
 use Rattle.library.specs.Library.{Symbol, Cell, number, ref, at, slot, named, instruction, Library, find_library}
 use Rattle.links.specs.Closure.{init_order}
 use Rattle.links.specs.Links.{Place, Module, Group, Links, Room}
@@ -65,7 +65,7 @@ put_bounds n i j p ms b h = go (slice_get ms i) refl
   where
     go : (o : Option Module) → slice_get ms i ≡ o → Bounds n (opt o ms (λ x. slice_set ms i (bound_to (slice_set x.bound j (Some p)) x)))
     go None e = h
-    go (Some x) e = let q = all_slice_get (Bindings n) ms i x h e in all_set (Bindings n) ms i (bound_to (slice_set x.bound j (Some p)) x) h (record { sized = length-set x.bound j (Some p) ∙ q.sized; below = put_below n x.bound j p q.below b })
+    go (Some x) e = let q = all_slice_get (Bindings n) ms i x h e in All-set (Bindings n) ms i (bound_to (slice_set x.bound j (Some p)) x) (record { sized = length-set x.bound j (Some p) ∙ q.sized; below = put_below n x.bound j p q.below b }) h
 
 bind_bounds : (k : Links) (is : List ℕ) (ms : List Module) → Bounds (length k.modules) ms → Bounds (length k.modules) (bind_refs k is ms)
 bind_bounds k [] ms h = h
@@ -73,7 +73,7 @@ bind_bounds k (i ∷ is) ms h = bind_bounds k is _ (go (slice_get ms i))
   where
     go : (o : Option Module) → Bounds (length k.modules) (opt o ms (λ x. slice_set ms i (bound_to (map (ref_target k i) x.lib.cells) x)))
     go None = h
-    go (Some x) = all_set (Bindings (length k.modules)) ms i (bound_to (map (ref_target k i) x.lib.cells) x) h (record { sized = length-map x.lib.cells (ref_target k i); below = targets_below k i x.lib.cells })
+    go (Some x) = All-set (Bindings (length k.modules)) ms i (bound_to (map (ref_target k i) x.lib.cells) x) (record { sized = length-map x.lib.cells (ref_target k i); below = targets_below k i x.lib.cells }) h
 
 bind_length : (k : Links) (is : List ℕ) (ms : List Module) → length (bind_refs k is ms) ≡ length ms
 bind_length k [] ms = refl
@@ -127,11 +127,11 @@ module _ (ls : List Library) (m : Room) (g n : ℕ) where
       go (Some j) p q = kept (joined b j) q (record { longer = r.longer; bounds = r.bounds; members = All-push (λ j. j < length b.modules) b.members j r.members (omega (arith, loaded_below b.modules 0 x j p)) })
 
   all_in : (xs : List Name) (b c : Brought) → GroupIn n b → bring_all ls m g xs b ≡ Some c → GroupIn n c
-  all_in [] b c r e = subst (GroupIn n) (some_is e) r
+  all_in [] b c r e = subst (GroupIn n) (same_Some _ _ e) r
   all_in (x ∷ xs) b c r e = let t = on_some_inv (bring_one ls m g b x) (λ d. bring_all ls m g xs d) c e in all_in xs t.0 c (one_in b t.0 x r t.1) t.2
 
 load_linked : (ls : List Library) (m : Room) (x : Name) (global : Bool) (k : Links) (l : Loaded) → Linked k → load ls m x global k ≡ Some l → Linked l.links
-load_linked ls m x global k l h e = subst (λ q. Linked q.links) (sym p.is) (record { bound = rw long (bind_bounds t p.brought.new p.brought.modules b.bounds); members = rw long (all_append (λ g. Below (length p.brought.modules) g.members) k.groups _ (all_like (λ g. Below (length k.modules) g.members) (λ g. Below (length p.brought.modules) g.members) k.groups (λ g. below_wider (length k.modules) (length p.brought.modules) g.members b.longer) h.members) (b.members, tt)); order = rw long (all_append (λ j. j < length p.brought.modules) k.order _ (below_wider (length k.modules) (length p.brought.modules) k.order b.longer h.order) (init_below p.brought.modules p.brought.new (init_order ls x))) })
+load_linked ls m x global k l h e = subst (λ q. Linked q.links) (sym p.is) (record { bound = rw long (bind_bounds t p.brought.new p.brought.modules b.bounds); members = rw long (All-append (λ g. Below (length p.brought.modules) g.members) k.groups _ (all_like (λ g. Below (length k.modules) g.members) (λ g. Below (length p.brought.modules) g.members) k.groups (λ g. below_wider (length k.modules) (length p.brought.modules) g.members b.longer) h.members) (b.members, tt)); order = rw long (All-append (λ j. j < length p.brought.modules) k.order _ (below_wider (length k.modules) (length p.brought.modules) k.order b.longer h.order) (init_below p.brought.modules p.brought.new (init_order ls x))) })
   where
     p : Parts ls m x global k l
     p = load_parts ls m x global k l e
@@ -160,7 +160,7 @@ close_linked k h l = record { bound = l.bound; members = go (slice_get k.groups 
   where
     go : (o : Option Group) → slice_get k.groups h ≡ o → AllByRecursion (λ g. Below (length k.modules) g.members) (opt o k.groups (λ g. slice_set k.groups h (closed_group g)))
     go None e = l.members
-    go (Some g) e = all_set (λ g. Below (length k.modules) g.members) k.groups h (closed_group g) l.members (all_slice_get (λ g. Below (length k.modules) g.members) k.groups h g l.members e)
+    go (Some g) e = All-set (λ g. Below (length k.modules) g.members) k.groups h (closed_group g) (all_slice_get (λ g. Below (length k.modules) g.members) k.groups h g l.members e) l.members
 
 unload_bounds : (n : ℕ) (js : List ℕ) (ms : List Module) → Bounds n ms → Bounds n (unload_all js ms) × (length (unload_all js ms) ≡ length ms)
 unload_bounds n [] ms h = (h, refl)
@@ -168,7 +168,7 @@ unload_bounds n (j ∷ js) ms h = go (slice_get ms j) refl (unload_bounds n js)
   where
     go : (o : Option Module) → slice_get ms j ≡ o → ((ms : List Module) → Bounds n ms → Bounds n (unload_all js ms) × (length (unload_all js ms) ≡ length ms)) → Bounds n (unload_all js (opt o ms (λ x. slice_set ms j (unloaded x)))) × (length (unload_all js (opt o ms (λ x. slice_set ms j (unloaded x)))) ≡ length ms)
     go None e r = r ms h
-    go (Some x) e r = let q = all_slice_get (Bindings n) ms j x h e in let t = r (slice_set ms j (unloaded x)) (all_set (Bindings n) ms j (unloaded x) h (record { sized = q.sized; below = q.below })) in (t.0, t.1 ∙ length-set ms j (unloaded x))
+    go (Some x) e r = let q = all_slice_get (Bindings n) ms j x h e in let t = r (slice_set ms j (unloaded x)) (All-set (Bindings n) ms j (unloaded x) (record { sized = q.sized; below = q.below }) h) in (t.0, t.1 ∙ length-set ms j (unloaded x))
 
 unload_linked : (k : Links) (js : List ℕ) → Linked k → Linked (unload js k)
 unload_linked k js h = let t = unload_bounds (length k.modules) (filter (λ j. has j (leaving k)) js) k.modules h.bound in record { bound = rw t.1 t.0; members = rw t.1 h.members; order = rw t.1 h.order }
@@ -182,7 +182,7 @@ linked_sound k h js j e = below_has (length k.modules) j (bound_of k.modules js)
 
     all_below : (js : List ℕ) → Below (length k.modules) (bound_of k.modules js)
     all_below [] = tt
-    all_below (i ∷ is) = all_append (λ j. j < length k.modules) (opt (live_at k.modules i) [] (λ x. hosts x.bound)) (bound_of k.modules is) (one_below i (live_at k.modules i) refl) (all_below is)
+    all_below (i ∷ is) = All-append (λ j. j < length k.modules) (opt (live_at k.modules i) [] (λ x. hosts x.bound)) (bound_of k.modules is) (one_below i (live_at k.modules i) refl) (all_below is)
 
 pub keeps_linked : KeepsLinked
 keeps_linked = record { by_load = load_linked; by_slot = slot_linked; by_close = close_linked; by_unload = unload_linked; sound = linked_sound }

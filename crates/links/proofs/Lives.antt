@@ -1,11 +1,10 @@
 -- Live modules: of other lists with the same keys, of lists grown, bound or unloaded.
-use Rattle.std.proofs.lemmas.Option.{slice_get_within}
+use Rattle.std.proofs.lemmas.Option.{slice_get_within, none-some, same_Some}
 use Rattle.std.specs.Prelude.{None, Option, Some, cond, is_some, slice_get, slice_set}
 use Rattle.std.proofs.Common.{◌≡◌, ℕ, zero, suc, ◌+◌, Bool, true, false, ◌&&◌, eqb, ◌⊎◌, List, [], ◌∷◌, ◌++◌, map, length, sym, refl, ap, ◌∙◌, inl, inr, ⊎_elim, arith}
 use Rattle.base.specs.Choices.{opt, on_some, guard}
 use Rattle.base.specs.Lists.{has}
 use Rattle.base.specs.Names.{Name, same}
-use Rattle.base.proofs.Choices.{some_is, none_not_some}
 use Rattle.base.proofs.Lists.{slice_get_left, slice_get_push, slice_get-set_same, slice_get-set_other}
 use Rattle.base.proofs.Names.{same_is, same_self}
 use Rattle.library.specs.Library.{Library, find_library}
@@ -50,32 +49,32 @@ live_push ms y i x e = let p = live_inv (ms ++ (y ∷ [])) i x e in ⊎_elim (λ
 
 -- the live module of a name
 pub find_named : (ls : List Library) (x : Name) (l : Library) → find_library ls x ≡ Some l → l.name ≡ x
-find_named [] x l e = absurd (none_not_some e)
+find_named [] x l e = absurd (none-some _ e)
 find_named (k ∷ ls) x l e = go (same k.name x) refl e (find_named ls x l)
   where
     go : (b : Bool) → same k.name x ≡ b → cond b (Some k) (find_library ls x) ≡ Some l → (find_library ls x ≡ Some l → l.name ≡ x) → l.name ≡ x
-    go true q e r = ap (λ z. z.name) (sym (some_is e)) ∙ same_is k.name x q
+    go true q e r = ap (λ z. z.name) (sym (same_Some _ _ e)) ∙ same_is k.name x q
     go false q e r = r e
 
 pub loaded_is : (ms : List Module) (n : ℕ) (x : Name) (j : ℕ) → find_loaded ms n x ≡ Some j → (i : ℕ) × (y : Module) × (j ≡ n + i) × (live_at ms i ≡ Some y) × (y.lib.name ≡ x)
-loaded_is [] n x j e = absurd (none_not_some e)
+loaded_is [] n x j e = absurd (none-some _ e)
 loaded_is (m ∷ ms) n x j e = go (m.live && same m.lib.name x) refl e (loaded_is ms (suc n) x j)
   where
     go : (b : Bool) → (m.live && same m.lib.name x) ≡ b → cond b (Some n) (find_loaded ms (suc n) x) ≡ Some j → (find_loaded ms (suc n) x ≡ Some j → (i : ℕ) × (y : Module) × (j ≡ suc n + i) × (live_at ms i ≡ Some y) × (y.lib.name ≡ x)) → (i : ℕ) × (y : Module) × (j ≡ n + i) × (live_at (m ∷ ms) i ≡ Some y) × (y.lib.name ≡ x)
-    go true q e r = let p = and_parts m.live (same m.lib.name x) q in (0, m, omega (arith, some_is e), live_from (m ∷ ms) 0 m refl p.0, same_is m.lib.name x p.1)
+    go true q e r = let p = and_parts m.live (same m.lib.name x) q in (0, m, omega (arith, same_Some _ _ e), live_from (m ∷ ms) 0 m refl p.0, same_is m.lib.name x p.1)
     go false q e r = let t = r e in (suc t.0, t.1, omega (arith, t.2), t.3, t.4)
 
 pub loaded_none : (ms : List Module) (n : ℕ) (x : Name) → find_loaded ms n x ≡ None → (i : ℕ) (y : Module) → live_at ms i ≡ Some y → y.lib.name ≡ x → ⊥
-loaded_none [] n x e i y q h = none_not_some q
+loaded_none [] n x e i y q h = none-some _ q
 loaded_none (m ∷ ms) n x e zero y q h = go (m.live && same m.lib.name x) refl e
   where
     go : (b : Bool) → (m.live && same m.lib.name x) ≡ b → cond b (Some n) (find_loaded ms (suc n) x) ≡ None → ⊥
-    go true p e = none_not_some (sym e)
-    go false p e = let t = live_inv (m ∷ ms) zero y q in let s = some_is t.0 in let z : true ≡ false = sym (λ i. (ap (λ z. z.live) s ∙ t.1) i && (ap (λ z. same z.lib.name x) s ∙ ap (λ w. same w x) h ∙ same_self x) i) ∙ p in let w : ◌≡◌ {A = ℕ} 0 1 = cc in omega arith
+    go true p e = none-some _ (sym e)
+    go false p e = let t = live_inv (m ∷ ms) zero y q in let s = same_Some _ _ t.0 in let z : true ≡ false = sym (λ i. (ap (λ z. z.live) s ∙ t.1) i && (ap (λ z. same z.lib.name x) s ∙ ap (λ w. same w x) h ∙ same_self x) i) ∙ p in let w : ◌≡◌ {A = ℕ} 0 1 = cc in omega arith
 loaded_none (m ∷ ms) n x e (suc i) y q h = loaded_none ms (suc n) x (rest (m.live && same m.lib.name x) e) i y q h
   where
     rest : (b : Bool) → cond b (Some n) (find_loaded ms (suc n) x) ≡ None → find_loaded ms (suc n) x ≡ None
-    rest true e = absurd (none_not_some (sym e))
+    rest true e = absurd (none-some _ (sym e))
     rest false e = e
 
 -- unloaded: those of ds, no other
@@ -90,8 +89,8 @@ one_gone : (ms : List Module) (d i : ℕ) (x : Module) → live_at (opt (slice_g
 one_gone ms d i x e = go (slice_get ms d) refl e
   where
     go : (o : Option Module) → slice_get ms d ≡ o → live_at (opt o ms (λ y. slice_set ms d (unloaded y))) i ≡ Some x → (live_at ms i ≡ Some x) × (eqb i d ≡ false)
-    go None q e = (e, ne_eqb i d (λ p. none_not_some (sym q ∙ ap (slice_get ms) (sym p) ∙ (live_inv ms i x e).0)))
-    go (Some y) q e = ⊎_elim (λ p. absurd (none_not_some (sym (gone_here ms d y q) ∙ ap (live_at (slice_set ms d (unloaded y))) (sym p) ∙ e))) (λ p. (sym (gone_other ms d y q i p) ∙ e, ne_eqb i d p)) (cases_eq i d)
+    go None q e = (e, ne_eqb i d (λ p. none-some _ (sym q ∙ ap (slice_get ms) (sym p) ∙ (live_inv ms i x e).0)))
+    go (Some y) q e = ⊎_elim (λ p. absurd (none-some _ (sym (gone_here ms d y q) ∙ ap (live_at (slice_set ms d (unloaded y))) (sym p) ∙ e))) (λ p. (sym (gone_other ms d y q i p) ∙ e, ne_eqb i d p)) (cases_eq i d)
 
 one_stays : (ms : List Module) (d i : ℕ) (x : Module) → live_at ms i ≡ Some x → eqb i d ≡ false → live_at (opt (slice_get ms d) ms (λ y. slice_set ms d (unloaded y))) i ≡ Some x
 one_stays ms d i x e h = go (slice_get ms d) refl

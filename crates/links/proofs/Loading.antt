@@ -1,11 +1,12 @@
 -- A load puts new modules behind the old ones and takes words in order.
+use Rattle.std.proofs.lemmas.Option.{same_Some}
 use Rattle.std.proofs.ByRecursion.{All-push}
 use Rattle.std.specs.List.{AllByRecursion}
 use Rattle.std.specs.Prelude.{None, Option, Some, cond, slice_get, slice_set}
 use Rattle.std.proofs.Common.{◌≡◌, ℕ, zero, suc, ◌+◌, ◌<◌, ◌≤◌, Bool, true, false, leb, List, [], ◌∷◌, ◌++◌, map, length, sym, refl, ap, ◌∙◌, subst, append_assoc, append-nil, arith}
 use Rattle.base.specs.Choices.{opt, on_some, guard}
 use Rattle.base.specs.Names.{Name}
-use Rattle.base.proofs.Choices.{some_is, on_some_inv, guard_inv, opt_some}
+use Rattle.base.proofs.Choices.{on_some_inv, guard_inv, opt_some}
 use Rattle.library.specs.Library.{Symbol, Cell, number, ref, at, slot, named, instruction, Library, find_library}
 use Rattle.links.specs.Closure.{news, breadth, closure, init_order}
 use Rattle.links.specs.Links.{Module, Key, key, Links, Room, cells_in}
@@ -71,7 +72,7 @@ module _ (ls : List Library) (m : Room) (g : ℕ) (k : Links) where
       go (Some j) q = kept (joined b j) q (joined_brings b j r)
 
   all_brings : (xs : List Name) (b c : Brought) → Bringing ls m g k b → bring_all ls m g xs b ≡ Some c → Bringing ls m g k c
-  all_brings [] b c r e = subst (Bringing ls m g k) (some_is e) r
+  all_brings [] b c r e = subst (Bringing ls m g k) (same_Some _ _ e) r
   all_brings (x ∷ xs) b c r e = let t = on_some_inv (bring_one ls m g b x) (λ d. bring_all ls m g xs d) c e in all_brings xs t.0 c (one_brings b t.0 x r t.1) t.2
 
   none_brings : Bringing ls m g k (nothing_yet k)
@@ -104,7 +105,7 @@ module _ (ls : List Library) (m : Room) (g : ℕ) where
       go (Some j) p q = kept (joined b j) (omega arith) (loaded_any b.modules 0 x j p) q
 
   rest_held : (u : ℕ) (xs : List Name) (b c : Brought) → Took m u b → bring_all ls m g xs b ≡ Some c → Took m u c
-  rest_held u [] b c r e = subst (Took m u) (some_is e) r
+  rest_held u [] b c r e = subst (Took m u) (same_Some _ _ e) r
   rest_held u (x ∷ xs) b c r e = let t = on_some_inv (bring_one ls m g b x) (λ d. bring_all ls m g xs d) c e in rest_held u xs t.0 c (one_held u b t.0 x (omega (arith, r.more)) t.1) t.2
 
   all_held : (xs : List Name) (b c : Brought) → 1 ≤ length xs → bring_all ls m g xs b ≡ Some c → Took m b.used c

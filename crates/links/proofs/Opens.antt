@@ -1,4 +1,5 @@
 -- What the group has that a load opens.
+use Rattle.std.proofs.lemmas.Option.{same_Some}
 use Rattle.std.specs.List.{list_all}
 use Rattle.std.specs.Option.{option_map}
 use Rattle.std.specs.Prelude.{None, Option, Some, cond, is_some, slice_get}
@@ -6,7 +7,7 @@ use Rattle.std.proofs.Common.{◌≡◌, ℕ, suc, true, not, ◌&&◌, ◌||◌
 use Rattle.base.specs.Choices.{opt, on_some}
 use Rattle.base.specs.Lists.{has}
 use Rattle.base.specs.Names.{Name, same}
-use Rattle.base.proofs.Choices.{some_is, on_some_inv, guard_inv}
+use Rattle.base.proofs.Choices.{on_some_inv, guard_inv}
 use Rattle.base.proofs.Lists.{slice_get_last}
 use Rattle.library.specs.Library.{Symbol, Cell, number, ref, at, slot, named, instruction, Library, find_library}
 use Rattle.links.specs.Closure.{init_order}
@@ -59,7 +60,7 @@ module _ (ls : List Library) (m : Room) (g : ℕ) where
       go (Some j) p q = let t = loaded_is b.modules 0 x j p in let n : j ≡ t.0 = omega (arith, t.2) in kept (joined b j) q (pushed b.modules j r (ap (live_name b.modules) n ∙ ap (option_map (λ x. x.lib.name)) t.3 ∙ ap Some t.4))
 
   all_named : (xs ys : List Name) (b c : Brought) → NamesSo xs b → bring_all ls m g ys b ≡ Some c → NamesSo (xs ++ ys) c
-  all_named xs [] b c r e = subst (λ zs. NamesSo zs c) (sym (append-nil xs)) (subst (NamesSo xs) (some_is e) r)
+  all_named xs [] b c r e = subst (λ zs. NamesSo zs c) (sym (append-nil xs)) (subst (NamesSo xs) (same_Some _ _ e) r)
   all_named xs (y ∷ ys) b c r e = let t = on_some_inv (bring_one ls m g b y) (λ d. bring_all ls m g ys d) c e in subst (λ zs. NamesSo zs c) (append_assoc xs (y ∷ []) ys) (all_named (xs ++ (y ∷ [])) ys t.0 c (one_named xs b t.0 y r t.1) t.2)
 
 -- refs are met alike where symbols mean alike

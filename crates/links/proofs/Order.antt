@@ -1,8 +1,9 @@
 -- The order of initialisation: every library of the closure once, what is needed first but for rings.
+use Rattle.std.proofs.lemmas.Option.{same_Some}
 use Rattle.std.specs.Prelude.{Some, cond}
 use Rattle.std.proofs.Common.{◌≡◌, ℕ, zero, suc, ◌+◌, ◌≤◌, Bool, true, false, ◌||◌, ◌⊎◌, List, [], ◌∷◌, ◌++◌, length, sym, refl, ap, ◌∙◌, subst, inl, inr, ⊎_elim, arith}
 use Rattle.base.specs.Names.{Name, same, among, Once}
-use Rattle.base.proofs.Choices.{some_is, cond_true, cond_false, opt_some}
+use Rattle.base.proofs.Choices.{cond_true, cond_false, opt_some}
 use Rattle.base.proofs.Names.{same_self, once_append}
 use Rattle.library.specs.Library.{Library, find_library}
 use Rattle.links.specs.Closure.{Task, enter, leave, enters, depth, all_needs, init_order}
@@ -119,7 +120,7 @@ module _ (ls : List Library) (x : Name) where
 
   -- entered now: what it needs is entered before it is left
   entering : (z : Name) (l : Library) (ts : List Task) (seen done : List Name) → Walks ls x (enter z ∷ ts) seen done → among z seen ≡ false → find_library ls z ≡ Some l → Walks ls x (enters l.needs ++ (leave z ∷ ts)) (z ∷ seen) done
-  entering z l ts seen done r e q = record { root = among_there x z seen r.root; parted = λ v h. subst (λ es. (among v done ≡ true) ⊎ (among v es ≡ true)) (sym same_entered) (parted v h); done_seen = λ v h. among_there v z seen (r.done_seen v h); entered_seen = λ v h. seen_too v (subst (λ es. among v es ≡ true) same_entered h); done_once = r.done_once; entered_once = subst Once (sym same_entered) (fresh (entered ts) r.entered_seen, r.entered_once); apart = λ v h. apart v (subst (λ es. among v es ≡ true) same_entered h); reached = r.reached; nested = nested_entered ls x l.needs z ts (λ w h. (l, q, h)) r.nested; awaits = awaits_entered ls (z ∷ seen) l.needs z ts (λ w n. inl (ap (λ m. among w m.needs) (some_is (sym q ∙ n.1)) ∙ n.2)) r.awaits; needs_seen = λ v w h n. among_there w z seen (r.needs_seen v w h n); needs_first = r.needs_first }
+  entering z l ts seen done r e q = record { root = among_there x z seen r.root; parted = λ v h. subst (λ es. (among v done ≡ true) ⊎ (among v es ≡ true)) (sym same_entered) (parted v h); done_seen = λ v h. among_there v z seen (r.done_seen v h); entered_seen = λ v h. seen_too v (subst (λ es. among v es ≡ true) same_entered h); done_once = r.done_once; entered_once = subst Once (sym same_entered) (fresh (entered ts) r.entered_seen, r.entered_once); apart = λ v h. apart v (subst (λ es. among v es ≡ true) same_entered h); reached = r.reached; nested = nested_entered ls x l.needs z ts (λ w h. (l, q, h)) r.nested; awaits = awaits_entered ls (z ∷ seen) l.needs z ts (λ w n. inl (ap (λ m. among w m.needs) (same_Some _ _ (sym q ∙ n.1)) ∙ n.2)) r.awaits; needs_seen = λ v w h n. among_there w z seen (r.needs_seen v w h n); needs_first = r.needs_first }
     where
       same_entered : entered (enters l.needs ++ (leave z ∷ ts)) ≡ z ∷ entered ts
       same_entered = entered_enters l.needs (leave z ∷ ts)
@@ -183,7 +184,7 @@ module _ (ls : List Library) (x : Name) where
 
   -- the root, entered
   begun : (l : Library) → find_library ls x ≡ Some l → Walks ls x (enters l.needs ++ (leave x ∷ [])) (x ∷ []) []
-  begun l e = record { root = among_here x []; parted = λ y h. inr (subst (λ es. among y es ≡ true) (sym same_entered) h); done_seen = λ y h. among_none y h; entered_seen = λ y h. subst (λ es. among y es ≡ true) same_entered h; done_once = tt; entered_once = subst Once (sym same_entered) (refl, tt); apart = λ y h. refl; reached = λ y h. among_none y h; nested = nested_entered ls x l.needs x [] (λ w h. (l, e, h)) (itself, (λ z h. among_none z h), tt); awaits = awaits_entered ls (x ∷ []) l.needs x [] (λ w n. inl (ap (λ m. among w m.needs) (some_is (sym e ∙ n.1)) ∙ n.2)) tt; needs_seen = λ y z h n. among_none y h; needs_first = λ y z h n. among_none y h }
+  begun l e = record { root = among_here x []; parted = λ y h. inr (subst (λ es. among y es ≡ true) (sym same_entered) h); done_seen = λ y h. among_none y h; entered_seen = λ y h. subst (λ es. among y es ≡ true) same_entered h; done_once = tt; entered_once = subst Once (sym same_entered) (refl, tt); apart = λ y h. refl; reached = λ y h. among_none y h; nested = nested_entered ls x l.needs x [] (λ w h. (l, e, h)) (itself, (λ z h. among_none z h), tt); awaits = awaits_entered ls (x ∷ []) l.needs x [] (λ w n. inl (ap (λ m. among w m.needs) (same_Some _ _ (sym e ∙ n.1)) ∙ n.2)) tt; needs_seen = λ y z h n. among_none y h; needs_first = λ y z h n. among_none y h }
     where
       same_entered : entered (enters l.needs ++ (leave x ∷ [])) ≡ x ∷ []
       same_entered = entered_enters l.needs (leave x ∷ [])

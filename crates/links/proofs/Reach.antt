@@ -1,9 +1,10 @@
 -- A closure has what a library reaches.
+use Rattle.std.proofs.lemmas.Option.{none-some, same_Some}
 use Rattle.std.specs.Prelude.{None, Option, Some, cond}
 use Rattle.std.proofs.Common.{◌≡◌, ℕ, zero, suc, ◌+◌, Bool, true, false, ◌⊎◌, List, [], ◌∷◌, ◌++◌, length, sym, refl, ap, ◌∙◌, inl, inr, ⊎_elim, append_assoc, append-nil, arith}
 use Rattle.base.specs.Choices.{on_some}
 use Rattle.base.specs.Names.{Name, among, Once, Fresh}
-use Rattle.base.proofs.Choices.{some_is, none_not_some, on_some_inv}
+use Rattle.base.proofs.Choices.{on_some_inv}
 use Rattle.base.proofs.Names.{once_append}
 use Rattle.library.specs.Library.{Library, find_library}
 use Rattle.links.specs.Closure.{news, breadth}
@@ -61,7 +62,7 @@ module _ (ls : List Library) (x : Name) where
       q_seen = rw r.split (among_right q done (q ∷ queue) (among_here q queue))
 
       own : (z : Name) → Needs ls q z → among z (seen ++ added) ≡ true
-      own z n = let same : n.0 ≡ l = some_is (sym n.1 ∙ e) in ⊎_elim (among_left z seen added) (among_right z seen added) (news_all z l.needs seen (rw same at n.2))
+      own z n = let same : n.0 ≡ l = same_Some _ _ (sym n.1 ∙ e) in ⊎_elim (among_left z seen added) (among_right z seen added) (news_all z l.needs seen (rw same at n.2))
 
       closed : (y z : Name) → among y (done ++ (q ∷ [])) ≡ true → Needs ls y z → among z (seen ++ added) ≡ true
       closed y z h n = ⊎_elim (λ p. among_left z seen added (r.closed y z p n)) (λ p. ⊎_elim (λ s. own z (rw s at n)) (among_none y) (among_cases y q [] p)) (among_split y done (q ∷ []) h)
@@ -71,15 +72,15 @@ module _ (ls : List Library) (x : Name) where
   all_reached seen e c y (further v w p n) = c v w (all_reached seen e c v p) n
 
   through : (n : ℕ) (done queue seen ys : List Name) → Spreads ls x done queue seen → breadth n ls queue seen ≡ Some ys → ClosedFrom ls x ys
-  through n done [] seen ys r e = rw (← some_is e) (record { once = r.once; found = rw same r.found; each = all_reached seen r.root (λ y z h. r.closed y z (rw same at h)); only = r.reached })
+  through n done [] seen ys r e = rw (← same_Some _ _ e) (record { once = r.once; found = rw same r.found; each = all_reached seen r.root (λ y z h. r.closed y z (rw same at h)); only = r.reached })
     where
       same : seen ≡ done
       same = r.split ∙ append-nil done
-  through zero done (q ∷ queue) seen ys r e = absurd (none_not_some e)
+  through zero done (q ∷ queue) seen ys r e = absurd (none-some _ e)
   through (suc n) done (q ∷ queue) seen ys r e = let t = on_some_inv (find_library ls q) _ ys e in through n (done ++ (q ∷ [])) (queue ++ news t.0.needs seen) (seen ++ news t.0.needs seen) ys (taken done queue seen q t.0 r t.1) t.2
 
   stuck : (n : ℕ) (done queue seen : List Name) → Spreads ls x done queue seen → length done + n ≡ suc (length ls) → breadth n ls queue seen ≡ None → (y : Name) × Reaches ls x y × (find_library ls y ≡ None)
-  stuck n done [] seen r h e = absurd (none_not_some (sym e))
+  stuck n done [] seen r h e = absurd (none-some _ (sym e))
   stuck zero done (q ∷ queue) seen r h e = let c = once_count ls done r.found (once_front done (q ∷ queue) (rw r.split at r.once)) in absurd (omega arith)
   stuck (suc n) done (q ∷ queue) seen r h e = ⊎_elim (λ p. (q, r.reached q (rw r.split (among_right q done (q ∷ queue) (among_here q queue))), p)) (λ t. stuck n (done ++ (q ∷ [])) (queue ++ news t.0.needs seen) (seen ++ news t.0.needs seen) (taken done queue seen q t.0 r t.1) (omega (arith, h, length_push done q)) t.2) (on_some_none (find_library ls q) _ e)
 

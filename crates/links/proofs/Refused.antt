@@ -1,11 +1,11 @@
 -- Why a load is refused.
+use Rattle.std.proofs.lemmas.Option.{none-some, same_Some}
 use Rattle.std.specs.List.{list_all}
 use Rattle.std.specs.Prelude.{None, Option, Some, is_some, slice_get}
 use Rattle.std.proofs.Common.{◌≡◌, ℕ, suc, ◌+◌, ◌<◌, ◌≤◌, Bool, true, false, not, ◌||◌, leb, List, [], ◌∷◌, length, sym, refl, ap, ⊎_elim, arith}
 use Rattle.base.specs.Choices.{opt, on_some, guard}
 use Rattle.base.specs.Lists.{has}
 use Rattle.base.specs.Names.{Name}
-use Rattle.base.proofs.Choices.{some_is, none_not_some}
 use Rattle.base.proofs.Sets.{has_here, has_there}
 use Rattle.library.specs.Library.{Symbol, Cell, number, ref, at, slot, named, instruction, Library, find_library}
 use Rattle.links.specs.Links.{Place, Module, Links, Room}
@@ -18,7 +18,7 @@ use Rattle.links.proofs.Reach.{on_some_none, closure_reaches}
 use Rattle.std.proofs.lemmas.Bool.{and_cases, or_parts, leb-false}
 
 guard_none : {A : Type 0} (b : Bool) (x : A) → guard b (Some x) ≡ None → b ≡ false
-guard_none true x e = absurd (none_not_some (sym e))
+guard_none true x e = absurd (none-some _ (sym e))
 guard_none false x e = refl
 
 -- what one more takes at most, where there are words for it
@@ -26,8 +26,8 @@ took : (m : Room) (d : Brought) (n : ℕ) → d.used ≤ n → (fits m d ≡ Non
 took m d n h = go (leb d.used m.words) refl
   where
     go : (b : Bool) → leb d.used m.words ≡ b → (guard b (Some d) ≡ None → m.words < n) × ((c : Brought) → guard b (Some d) ≡ Some c → c.used ≤ n)
-    go true q = ((λ e. absurd (none_not_some (sym e))), λ c e. omega (arith, h, ap (λ z. z.used) (some_is e)))
-    go false q = ((λ e. omega (arith, h, leb-false d.used m.words q)), λ c e. absurd (none_not_some e))
+    go true q = ((λ e. absurd (none-some _ (sym e))), λ c e. omega (arith, h, ap (λ z. z.used) (same_Some _ _ e)))
+    go false q = ((λ e. omega (arith, h, leb-false d.used m.words q)), λ c e. absurd (none-some _ e))
 
 module _ (ls : List Library) (m : Room) (g : ℕ) where
   one_takes : (b : Brought) (x : Name) (l : Library) → find_library ls x ≡ Some l → (bring_one ls m g b x ≡ None → m.words < b.used + (m.gap + (1 + length l.cells))) × ((c : Brought) → bring_one ls m g b x ≡ Some c → c.used ≤ b.used + (m.gap + (1 + length l.cells)))
@@ -38,7 +38,7 @@ module _ (ls : List Library) (m : Room) (g : ℕ) where
       go (Some j) = took m (joined b j) (b.used + (m.gap + (1 + length l.cells))) (omega arith)
 
   all_take : (xs : List Name) (b : Brought) → Found ls xs → bring_all ls m g xs b ≡ None → m.words < b.used + words_for ls m xs
-  all_take [] b f e = absurd (none_not_some (sym e))
+  all_take [] b f e = absurd (none-some _ (sym e))
   all_take (x ∷ xs) b f e = let t = one_takes b x f.0.0 f.0.1 in ⊎_elim (λ (p : bring_one ls m g b x ≡ None). rw f.0.1 (omega (arith, t.0 p))) (λ p. let r = all_take xs p.0 f.1 p.2 in rw f.0.1 (omega (arith, r, t.1 p.0 p.1))) (on_some_none (bring_one ls m g b x) (λ c. bring_all ls m g xs c) e)
 
 -- a ref that must be met and means nothing

@@ -1,11 +1,11 @@
 -- Links stay whole.
-use Rattle.std.proofs.lemmas.Option.{slice_get_within}
+use Rattle.std.proofs.lemmas.Option.{slice_get_within, none-some, same_Some}
 use Rattle.std.specs.Prelude.{None, Option, Some, cond, filter, is_some, slice_get, slice_set}
 use Rattle.std.proofs.Common.{◌≡◌, ℕ, zero, suc, ◌+◌, Bool, true, false, not, ◌&&◌, leb, ◌⊎◌, List, [], ◌∷◌, ◌++◌, map, length, sym, refl, ap, ◌∙◌, subst, inl, inr, ⊎_elim, arith}
 use Rattle.base.specs.Choices.{opt, on_some}
 use Rattle.base.specs.Lists.{has, Within}
 use Rattle.base.specs.Names.{Name, among, Once}
-use Rattle.base.proofs.Choices.{some_is, none_not_some, on_some_inv, guard_inv}
+use Rattle.base.proofs.Choices.{on_some_inv, guard_inv}
 use Rattle.base.proofs.Lists.{slice_get_last, slice_get-set_same, slice_get-set_other}
 use Rattle.base.proofs.Sets.{has_here, has_there}
 use Rattle.library.specs.Library.{Cell, number, ref, at, slot, named, instruction, Library, find_library}
@@ -38,7 +38,7 @@ stays_least = record { roots = λ k j e. retained_more (length k.modules) k.modu
 
 -- a close or an unload
 open_fewer : (gs : List Group) (h : ℕ) (g : Group) → slice_get gs h ≡ Some g → Within (open_members (slice_set gs h (closed_group g))) (open_members gs)
-open_fewer [] h g e = absurd (none_not_some e)
+open_fewer [] h g e = absurd (none-some _ e)
 open_fewer (f ∷ gs) zero g e = λ j q. has_right (cond f.opened f.members []) (open_members gs) j q
 open_fewer (f ∷ gs) (suc h) g e = λ j q. ⊎_elim (has_left (cond f.opened f.members []) (open_members gs) j) (λ p. has_right (cond f.opened f.members []) (open_members gs) j (open_fewer gs h g e j p)) (has-append (cond f.opened f.members []) (open_members (slice_set gs h (closed_group g))) j q)
 
@@ -111,7 +111,7 @@ slot_hosts k me j p i a x e h = go (slice_get k.modules me) refl e
         t = live_inv (slice_set k.modules me z) i x e
 
         here : i ≡ me → Goal
-        here n = let s : z ≡ x = some_is (sym (slice_get-set_same k.modules me z (slice_get_within k.modules me y q)) ∙ ap (slice_get (slice_set k.modules me z)) (sym n) ∙ t.0) in ⊎_elim (λ r. inl (y, live_from k.modules i y (ap (slice_get k.modules) n ∙ q) (ap (λ m. m.live) s ∙ t.1), r)) inr (put_hosts y.bound j p a (subst (λ m. has a (hosts m.bound) ≡ true) (sym s) h))
+        here n = let s : z ≡ x = same_Some _ _ (sym (slice_get-set_same k.modules me z (slice_get_within k.modules me y q)) ∙ ap (slice_get (slice_set k.modules me z)) (sym n) ∙ t.0) in ⊎_elim (λ r. inl (y, live_from k.modules i y (ap (slice_get k.modules) n ∙ q) (ap (λ m. m.live) s ∙ t.1), r)) inr (put_hosts y.bound j p a (subst (λ m. has a (hosts m.bound) ≡ true) (sym s) h))
 
 slot_whole : (k : Links) (me j : ℕ) (p : Place) → Whole k → Live k.modules p.host → Whole (slot_bound k me j p)
 slot_whole k me j p w l = record { linked = keeps_linked.by_slot k me j p w.linked (let t = live_is k.modules p.host l in slice_get_within k.modules p.host t.0 (live_inv k.modules p.host t.0 t.1).0); bound = λ i a x e h. lives a (⊎_elim (λ t. w.bound i a t.0 t.1 t.2) (λ q. subst (Live k.modules) (sym q) l) (slot_hosts k me j p i a x e h)); members = λ a e. lives a (w.members a e); one_each = one_keys k.modules (slot_bound k me j p).modules (slot_keys k me j p) w.one_each; ordered = λ a h. w.ordered a (LiveKeys (slot_bound k me j p).modules k.modules (slot_keys k me j p) a h); once = w.once }
@@ -166,7 +166,7 @@ module _ (ls : List Library) (m : Room) (g : ℕ) (k : Links) (ys : List Name) w
       go (Some j) p q = kept (joined b j) q (joined_gathers b x j p r)
 
   all_gathers : (xs : List Name) (b c : Brought) → NamesIn xs ys → Gathers k ys b → bring_all ls m g xs b ≡ Some c → Gathers k ys c
-  all_gathers [] b c h r e = subst (Gathers k ys) (some_is e) r
+  all_gathers [] b c h r e = subst (Gathers k ys) (same_Some _ _ e) r
   all_gathers (x ∷ xs) b c h r e = let t = on_some_inv (bring_one ls m g b x) (λ d. bring_all ls m g xs d) c e in all_gathers xs t.0 c (λ y p. h y (among_there y x xs p)) (one_gathers b t.0 x (h x (among_here x xs)) r t.1) t.2
 
 -- a new module is in the order, since its name is in the order of names
@@ -206,7 +206,7 @@ init_name ms new (x ∷ xs) j e = go (find_loaded ms 0 x) refl e (init_name ms n
 
 -- so that none comes twice where no name does
 same_name : (ms : List Module) (x y : Name) (j : ℕ) → find_loaded ms 0 x ≡ Some j → find_loaded ms 0 y ≡ Some j → x ≡ y
-same_name ms x y j p q = let a = loaded_is ms 0 x j p in let b = loaded_is ms 0 y j q in let n : a.0 ≡ b.0 = omega (arith, a.2, b.2) in let s : a.1 ≡ b.1 = some_is (sym a.3 ∙ ap (live_at ms) n ∙ b.3) in sym a.4 ∙ ap (λ z. z.lib.name) s ∙ b.4
+same_name ms x y j p q = let a = loaded_is ms 0 x j p in let b = loaded_is ms 0 y j q in let n : a.0 ≡ b.0 = omega (arith, a.2, b.2) in let s : a.1 ≡ b.1 = same_Some _ _ (sym a.3 ∙ ap (live_at ms) n ∙ b.3) in sym a.4 ∙ ap (λ z. z.lib.name) s ∙ b.4
 
 init_distinct : (ms : List Module) (new : List ℕ) (xs : List Name) → Once xs → Distinct (init_ids ms new xs)
 init_distinct ms new [] o = tt
@@ -243,8 +243,8 @@ slice_get_split (x ∷ xs) ys zero z e = inl e
 slice_get_split (x ∷ xs) ys (suc i) z e = ⊎_elim inl (λ t. inr (t.0, omega (arith, t.1), t.2)) (slice_get_split xs ys i z e)
 
 pub bound_slice_get : (k : Links) (i : ℕ) (xs : List Module) (d : ℕ) (x : Module) → BoundFrom k i xs → slice_get xs d ≡ Some x → x.bound ≡ map (ref_target k (i + d)) x.lib.cells
-bound_slice_get k i [] d x b e = absurd (none_not_some e)
-bound_slice_get k i (y ∷ xs) zero x b e = let s : y ≡ x = some_is e in let n : i ≡ i + 0 = omega arith in subst (λ m. m.bound ≡ map (ref_target k (i + 0)) m.lib.cells) s (subst (λ a. y.bound ≡ map (ref_target k a) y.lib.cells) n b.0)
+bound_slice_get k i [] d x b e = absurd (none-some _ e)
+bound_slice_get k i (y ∷ xs) zero x b e = let s : y ≡ x = same_Some _ _ e in let n : i ≡ i + 0 = omega arith in subst (λ m. m.bound ≡ map (ref_target k (i + 0)) m.lib.cells) s (subst (λ a. y.bound ≡ map (ref_target k a) y.lib.cells) n b.0)
 bound_slice_get k i (y ∷ xs) (suc d) x b e = let n : suc i + d ≡ i + suc d = omega arith in subst (λ a. x.bound ≡ map (ref_target k a) x.lib.cells) n (bound_slice_get k (suc i) xs d x b.1 e)
 
 open_push : (gs : List Group) (g : Group) (j : ℕ) → has j (open_members (gs ++ (g ∷ []))) ≡ true → (has j (open_members gs) ≡ true) ⊎ (has j g.members ≡ true)
@@ -315,7 +315,7 @@ load_whole ls m x global k l w e = record { linked = keeps_linked.by_load ls m x
             clash q = omega (arith, below_has (length k.modules) j k.order w.linked.order h, up_from_least (length k.modules) (length a.fresh) j (subst (λ is. has j is ≡ true) (sym (ap (λ r. r.new) p.is) ∙ a.new) (init_name b.modules b.new (init_order ls x) j q).0))
 
 first_whole : (u : ℕ) → Whole (record { modules = []; groups = []; order = []; used = u })
-first_whole u = record { linked = record { bound = tt; members = tt; order = tt }; bound = λ i j x e h. absurd (none_not_some e); members = λ j e. has_none j e; one_each = λ i j x y p q h. absurd (none_not_some p); ordered = λ j h. let z : ◌≡◌ {A = ℕ} 0 1 = cc in absurd (omega arith); once = tt }
+first_whole u = record { linked = record { bound = tt; members = tt; order = tt }; bound = λ i j x e h. absurd (none-some _ e); members = λ j e. has_none j e; one_each = λ i j x y p q h. absurd (none-some _ p); ordered = λ j h. let z : ◌≡◌ {A = ℕ} 0 1 = cc in absurd (omega arith); once = tt }
 
 pub keeps_whole : KeepsWhole
 keeps_whole = record { at_first = first_whole; by_load = load_whole; by_slot = slot_whole; by_close = close_whole; by_unload = unload_whole }
@@ -364,7 +364,7 @@ new_stays ls m x global k l w e i h = ⊎_elim inl (λ q. inr (stays_least.roots
 put_more : (bs : List (Option Place)) (j : ℕ) (p : Place) → slice_get bs j ≡ Some None → Within (hosts bs) (hosts (slice_set bs j (Some p)))
 put_more [] j p e = λ i h. h
 put_more (None ∷ bs) zero p e = λ i h. has_there i p.host (hosts bs) h
-put_more (Some q ∷ bs) zero p e = absurd (none_not_some (sym (some_is e)))
+put_more (Some q ∷ bs) zero p e = absurd (none-some _ (sym (same_Some _ _ e)))
 put_more (None ∷ bs) (suc j) p e = put_more bs j p e
 put_more (Some q ∷ bs) (suc j) p e = λ i h. ⊎_elim (has_first i q.host (hosts (slice_set bs j (Some p)))) (λ r. has_there i q.host (hosts (slice_set bs j (Some p))) (put_more bs j p e i r)) (has_cases i q.host (hosts bs) h)
 
@@ -379,7 +379,7 @@ slot_stays k me j p w l f = staying_grows k (slot_bound k me j p) (slot_whole k 
 
         go : (o : Option Module) → slice_get k.modules me ≡ o → (y : Module) × (live_at (opt o k.modules (λ x. slice_set k.modules me (bound_to (slice_set x.bound j (Some p)) x))) i ≡ Some y) × Within (hosts x.bound) (hosts y.bound)
         go None q = (x, e, λ a h. h)
-        go (Some z) q = ⊎_elim (λ n. let s : z ≡ x = some_is (sym q ∙ ap (slice_get k.modules) (sym n) ∙ t.0) in (v, live_from (slice_set k.modules me v) i v (ap (slice_get (slice_set k.modules me v)) n ∙ slice_get-set_same k.modules me v (slice_get_within k.modules me z q)) (ap (λ m. m.live) s ∙ t.1), subst (λ m. Within (hosts m.bound) (hosts v.bound)) s (put_more z.bound j p (f z q)))) (λ n. (x, live_from (slice_set k.modules me v) i x (slice_get-set_other k.modules me i v n ∙ t.0) t.1, λ a h. h)) (cases_eq i me)
+        go (Some z) q = ⊎_elim (λ n. let s : z ≡ x = same_Some _ _ (sym q ∙ ap (slice_get k.modules) (sym n) ∙ t.0) in (v, live_from (slice_set k.modules me v) i v (ap (slice_get (slice_set k.modules me v)) n ∙ slice_get-set_same k.modules me v (slice_get_within k.modules me z q)) (ap (λ m. m.live) s ∙ t.1), subst (λ m. Within (hosts m.bound) (hosts v.bound)) s (put_more z.bound j p (f z q)))) (λ n. (x, live_from (slice_set k.modules me v) i x (slice_get-set_other k.modules me i v n ∙ t.0) t.1, λ a h. h)) (cases_eq i me)
           where
             v : Module
             v = bound_to (slice_set z.bound j (Some p)) z

@@ -1,11 +1,11 @@
 -- Links are whole in every state that a program comes to.
-use Rattle.std.proofs.lemmas.Option.{slice_get_within}
+use Rattle.std.proofs.lemmas.Option.{slice_get_within, none-some, same_Some}
 use Rattle.std.specs.List.{AllByRecursion}
 use Rattle.std.specs.Prelude.{None, Option, Some, filter, slice_get, slice_set}
 use Rattle.std.proofs.Common.{◌≡◌, ℕ, zero, suc, ◌+◌, Bool, true, false, not, ◌&&◌, eqb, ◌⊎◌, List, [], ◌∷◌, ◌++◌, map, length, sym, refl, ap, ◌∙◌, subst, inl, inr, ⊎_elim, arith}
 use Rattle.base.specs.Choices.{opt, on_some}
 use Rattle.base.specs.Lists.{has, Within}
-use Rattle.base.proofs.Choices.{some_is, none_not_some, on_some_inv}
+use Rattle.base.proofs.Choices.{on_some_inv}
 use Rattle.base.proofs.Lists.{slice_get_left, slice_get_right, slice_get-set_same, slice_get-set_other, all_like}
 use Rattle.library.specs.Library.{Symbol, Cell, number, ref, at, slot, named, instruction, Library}
 use Rattle.links.specs.Links.{Place, Module, Links, Room}
@@ -119,7 +119,7 @@ slot_length k me j p = go (slice_get k.modules me)
 
 -- cells of new modules: only slots are unsettled, and they have no binding
 slot_first : (k : Links) (me : ℕ) (cs : List Cell) (c : ℕ) (y : Symbol) → slice_get (first_helds k me cs) c ≡ Some (link y None) → slice_get (map (ref_target k me) cs) c ≡ Some None
-slot_first k me [] c y e = absurd (none_not_some e)
+slot_first k me [] c y e = absurd (none-some _ e)
 slot_first k me (number n ∷ cs) zero y e = let z : ◌≡◌ {A = ℕ} 0 1 = cc in absurd (omega arith)
 slot_first k me (ref s n must ∷ cs) zero y e = let z : ◌≡◌ {A = ℕ} 0 1 = cc in absurd (omega arith)
 slot_first k me (at n ∷ cs) zero y e = let z : ◌≡◌ {A = ℕ} 0 1 = cc in absurd (omega arith)
@@ -142,8 +142,8 @@ up_from_length a zero = refl
 up_from_length a (suc n) = ap suc (up_from_length (suc a) n)
 
 new_cells_slice_get : (k : Links) (a n d : ℕ) (hs : List Held) → slice_get (new_cells k (up_from a n)) d ≡ Some hs → hs ≡ opt (slice_get k.modules (a + d)) [] (λ x. first_helds k (a + d) x.lib.cells)
-new_cells_slice_get k a zero d hs e = absurd (none_not_some e)
-new_cells_slice_get k a (suc n) zero hs e = let s : a ≡ a + 0 = omega arith in subst (λ b. hs ≡ opt (slice_get k.modules b) [] (λ x. first_helds k b x.lib.cells)) s (sym (some_is e))
+new_cells_slice_get k a zero d hs e = absurd (none-some _ e)
+new_cells_slice_get k a (suc n) zero hs e = let s : a ≡ a + 0 = omega arith in subst (λ b. hs ≡ opt (slice_get k.modules b) [] (λ x. first_helds k b x.lib.cells)) s (sym (same_Some _ _ e))
 new_cells_slice_get k a (suc n) (suc d) hs e = let s : suc a + d ≡ a + suc d = omega arith in subst (λ b. hs ≡ opt (slice_get k.modules b) [] (λ x. first_helds k b x.lib.cells)) s (new_cells_slice_get k (suc a) n d hs e)
 
 load_unsettled : (ls : List Library) (m : Room) (x : _) (global : Bool) (k : Links) (l : Loaded) (css : List (List Held)) → load ls m x global k ≡ Some l → length css ≡ length k.modules → Unsettled css k.modules → Unsettled (css ++ new_cells l.links l.new) l.links.modules
@@ -162,7 +162,7 @@ load_unsettled ls m x global k l css e z u i c y h = let t = on_some_inv (slice_
         at_i = omega (arith, z, n.1)
 
         go : (o : Option Module) → slice_get l.links.modules (length k.modules + n.0) ≡ o → hs ≡ opt o [] (λ x. first_helds l.links (length k.modules + n.0) x.lib.cells) → part_at bonds l.links.modules i c ≡ Some None
-        go None p r = absurd (none_not_some (sym (ap (λ zs. slice_get zs c) r) ∙ q))
+        go None p r = absurd (none-some _ (sym (ap (λ zs. slice_get zs c) r) ∙ q))
         go (Some v) p r = ap (λ o. on_some o (λ x. slice_get x.bound c)) (ap (slice_get l.links.modules) at_i ∙ p) ∙ ap (λ bs. slice_get bs c) (bound_slice_get l.links (length k.modules) a.fresh n.0 v a.bound (sym (slice_get_right k.modules a.fresh n.0) ∙ ap (λ ms. slice_get ms (length k.modules + n.0)) (sym a.modules) ∙ p)) ∙ slot_first l.links (length k.modules + n.0) v.lib.cells c y (sym (ap (λ zs. slice_get zs c) r) ∙ q)
 
 load_sized : (ls : List Library) (m : Room) (x : _) (global : Bool) (k : Links) (l : Loaded) (css : List (List Held)) → load ls m x global k ≡ Some l → length css ≡ length k.modules → length (css ++ new_cells l.links l.new) ≡ length l.links.modules
@@ -232,8 +232,8 @@ module _ (ls : List Library) (m : Room) (s : State) (r : Sane s) where
       unbound_yet x n = sym (ap (λ o. on_some o (λ x. slice_get x.bound k)) n) ∙ r.unsettled s.core.here.host k y held
 
 begins_sane : (ls : List Library) (m : Room) (ins : List ℕ) (s : State) → begins ls m ins ≡ Some s → Sane s
-begins_sane [] m ins s e = absurd (none_not_some e)
-begins_sane (l ∷ ls) m ins s e = let b = begins_inv l ls m ins s e in subst Sane (sym b.4) (record { whole = keeps_whole.by_load (l ∷ ls) m l.name true (blank ins).links b.1 (keeps_whole.at_first 1) b.3; sized = load_sized (l ∷ ls) m l.name true (blank ins).links b.1 [] b.3 refl; unsettled = load_unsettled (l ∷ ls) m l.name true (blank ins).links b.1 [] b.3 refl (λ i c y q. absurd (none_not_some q)); covers = (tt, tt); alone = (never, tt) })
+begins_sane [] m ins s e = absurd (none-some _ e)
+begins_sane (l ∷ ls) m ins s e = let b = begins_inv l ls m ins s e in subst Sane (sym b.4) (record { whole = keeps_whole.by_load (l ∷ ls) m l.name true (blank ins).links b.1 (keeps_whole.at_first 1) b.3; sized = load_sized (l ∷ ls) m l.name true (blank ins).links b.1 [] b.3 refl; unsettled = load_unsettled (l ∷ ls) m l.name true (blank ins).links b.1 [] b.3 refl (λ i c y q. absurd (none-some _ q)); covers = (tt, tt); alone = (never, tt) })
 
 pub runs_whole : RunsWhole
 runs_whole ls m ins s n e = (after_by ls m (λ a b. Sane a → Sane b) (λ a r. r) (λ a b c p q r. q (p r)) (λ a x d r. change_sane ls m a r x d) s 0 n (omega arith) (begins_sane ls m ins s e)).whole

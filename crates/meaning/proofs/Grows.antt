@@ -1,7 +1,8 @@
 -- What was shown stays shown, what was taken stays taken.
+use Rattle.std.proofs.lemmas.Option.{none-some, same_Some}
 use Rattle.std.specs.Prelude.{Some}
 use Rattle.std.proofs.Common.{◌≡◌, ℕ, ◌≤◌, true, List, [], ◌∷◌, ◌++◌, sym, refl, ap, ◌∙◌, subst, append_assoc, append-nil, arith}
-use Rattle.base.proofs.Choices.{some_is, none_not_some, on_some_inv, opt_none}
+use Rattle.base.proofs.Choices.{on_some_inv, opt_none}
 use Rattle.library.specs.Library.{Library, any_version, main_name}
 use Rattle.links.specs.Links.{place_at, Room}
 use Rattle.links.specs.Load.{Loaded, load}
@@ -69,10 +70,10 @@ pub begins_inv : (l : Library) (ls : List Library) (m : Room) (ins : List ℕ) (
 begins_inv l ls m ins s e =
     let p = on_some_inv (find_def true l.defs (record { name = main_name; version = any_version })) _ s e in
     let q = on_some_inv (load (l ∷ ls) m l.name true (blank ins).links) _ s p.2 in
-    (p.0, q.0, p.1, q.1, sym (some_is q.2))
+    (p.0, q.0, p.1, q.1, sym (same_Some _ _ q.2))
 
 pub used_fits : UsedFits
-used_fits [] m ins s n e = absurd (none_not_some e)
+used_fits [] m ins s n e = absurd (none-some _ e)
 used_fits (l ∷ ls) m ins s n e = let b = begins_inv l ls m ins s e in let t = after_by (l ∷ ls) m (λ a c. a.links.used ≤ m.words → c.links.used ≤ m.words) (λ a h. h) (λ a b c p q h. q (p h)) (λ a x d. (change_takes (l ∷ ls) m a x d).1) s 0 n (omega arith) (subst (λ t. t.links.used ≤ m.words) (sym b.4) (load_appends (l ∷ ls) m l.name true (blank ins).links b.1 b.3).fits) in omega (arith, t, used_is (after (l ∷ ls) m s n))
 
 pub shown_grows : ShownGrows

@@ -1,10 +1,11 @@
 -- What no program changes, and what doesn't come back.
+use Rattle.std.proofs.lemmas.Option.{same_Some}
 use Rattle.std.specs.Prelude.{None, Some, filter, slice_get, slice_set}
 use Rattle.std.proofs.Common.{◌≡◌, ℕ, ◌+◌, ◌<◌, ◌≤◌, Bool, true, false, List, ◌++◌, length, sym, refl, ap, ◌∙◌, ⊎_elim, arith}
 use Rattle.base.specs.Choices.{on_some}
 use Rattle.base.specs.Names.{Name}
 use Rattle.base.specs.Lists.{has}
-use Rattle.base.proofs.Choices.{some_is, on_some_inv}
+use Rattle.base.proofs.Choices.{on_some_inv}
 use Rattle.base.proofs.Lists.{slice_get_left}
 use Rattle.library.specs.Library.{Library}
 use Rattle.links.specs.Links.{Place, Links, Room}
@@ -29,7 +30,7 @@ put_lasts : (css : List (List Held)) (a b : ℕ) (old v : Held) (i c : ℕ) (h :
 put_lasts css a b old v i c h o f l e = part_other helds (λ hs. slice_set hs b v) b v (λ hs. refl) css a i c apart ∙ e
   where
     apart : i ≡ a → c ≡ b → ⊥
-    apart p q = let s : old ≡ h = some_is (sym o ∙ (λ t. part_at helds css (sym p t) (sym q t)) ∙ e) in let t : lasts old ≡ true = ap lasts s ∙ l in let z : ◌≡◌ {A = ℕ} 0 1 = cc in omega arith
+    apart p q = let s : old ≡ h = same_Some _ _ (sym o ∙ (λ t. part_at helds css (sym p t) (sym q t)) ∙ e) in let t : lasts old ≡ true = ap lasts s ∙ l in let z : ◌≡◌ {A = ℕ} 0 1 = cc in omega arith
 
 append_lasts : (css ns : List (List Held)) (i c : ℕ) (h : Held) → part_at helds css i c ≡ Some h → part_at helds (css ++ ns) i c ≡ Some h
 append_lasts css ns i c h e = let t = on_some_inv (slice_get css i) (λ hs. slice_get hs c) h e in ap (λ o. on_some o (λ hs. slice_get hs c)) (slice_get_left css ns i t.0 t.1) ∙ t.2

@@ -1,9 +1,9 @@
 -- Parts of elements: a cell of a module, a binding of a module; one of them replaced.
-use Rattle.std.proofs.lemmas.Option.{slice_get_within}
+use Rattle.std.proofs.lemmas.Option.{slice_get_within, none-some, same_Some}
 use Rattle.std.specs.Prelude.{None, Option, Some, slice_get, slice_set}
 use Rattle.std.proofs.Common.{◌≡◌, ℕ, zero, suc, ◌≤◌, ◌⊎◌, List, [], ◌∷◌, length, sym, refl, ap, ◌∙◌, subst, inl, inr, ⊎_elim, arith}
 use Rattle.base.specs.Choices.{opt, on_some}
-use Rattle.base.proofs.Choices.{some_is, none_not_some, on_some_inv}
+use Rattle.base.proofs.Choices.{on_some_inv}
 use Rattle.base.proofs.Lists.{slice_get-set_same, slice_get-set_other}
 use Rattle.links.specs.Links.{Place, Module}
 use Rattle.links.specs.Scope.{live_at}
@@ -42,15 +42,15 @@ module _ {A B : Type 0} (f : A → List B) (u : A → A) (k : ℕ) (v : B) (e : 
   part_same xs i w h = let t = on_some_inv (slice_get xs i) (λ x. slice_get (f x) k) w h in go (slice_get xs i) refl t.0 t.1 t.2
     where
       go : (o : Option A) → slice_get xs i ≡ o → (x : A) → o ≡ Some x → slice_get (f x) k ≡ Some w → part_at f (opt o xs (λ x. slice_set xs i (u x))) i k ≡ Some v
-      go None q x p r = absurd (none_not_some p)
-      go (Some y) q x p r = ap (λ o. on_some o (λ x. slice_get (f x) k)) (slice_get-set_same xs i (u y) (slice_get_within xs i y q)) ∙ ap (λ ys. slice_get ys k) (e y) ∙ slice_get-set_same (f y) k v (slice_get_within (f y) k w (ap (λ z. slice_get (f z) k) (some_is p) ∙ r))
+      go None q x p r = absurd (none-some _ p)
+      go (Some y) q x p r = ap (λ o. on_some o (λ x. slice_get (f x) k)) (slice_get-set_same xs i (u y) (slice_get_within xs i y q)) ∙ ap (λ ys. slice_get ys k) (e y) ∙ slice_get-set_same (f y) k v (slice_get_within (f y) k w (ap (λ z. slice_get (f z) k) (same_Some _ _ p) ∙ r))
 
   -- what stands somewhere now stood there, or is what was put
   pub part_any : (xs : List A) (i a c : ℕ) (w : B) → part_at f (opt (slice_get xs i) xs (λ x. slice_set xs i (u x))) a c ≡ Some w → (part_at f xs a c ≡ Some w) ⊎ (v ≡ w)
   part_any xs i a c w h = go (slice_get xs i) refl h
     where
       put_any : (ys : List B) (n : ℕ) → slice_get (slice_set ys n v) c ≡ Some w → (slice_get ys c ≡ Some w) ⊎ (v ≡ w)
-      put_any ys n r = ⊎_elim (λ s. ⊎_elim (λ l. inr (some_is (sym (slice_get-set_same ys n v l) ∙ ap (slice_get (slice_set ys n v)) (sym s) ∙ r))) (λ l. inl (subst (λ zs. slice_get zs c ≡ Some w) (put_none ys n v l) r)) (cases_lt n (length ys))) (λ s. inl (sym (slice_get-set_other ys n c v s) ∙ r)) (cases_eq c n)
+      put_any ys n r = ⊎_elim (λ s. ⊎_elim (λ l. inr (same_Some _ _ (sym (slice_get-set_same ys n v l) ∙ ap (slice_get (slice_set ys n v)) (sym s) ∙ r))) (λ l. inl (subst (λ zs. slice_get zs c ≡ Some w) (put_none ys n v l) r)) (cases_lt n (length ys))) (λ s. inl (sym (slice_get-set_other ys n c v s) ∙ r)) (cases_eq c n)
 
       go : (o : Option A) → slice_get xs i ≡ o → part_at f (opt o xs (λ x. slice_set xs i (u x))) a c ≡ Some w → (part_at f xs a c ≡ Some w) ⊎ (v ≡ w)
       go None q r = inl r

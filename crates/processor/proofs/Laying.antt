@@ -1,7 +1,7 @@
 -- Words laid down one after the other.
+use Rattle.std.proofs.lemmas.Option.{none-some}
 use Rattle.std.specs.Prelude.{Some, slice_get, slice_set}
 use Rattle.std.proofs.Common.{◌≡◌, ℕ, zero, suc, ◌+◌, ◌<◌, ◌≤◌, List, [], ◌∷◌, length, get_or, drop, sym, refl, ap, ◌∙◌, arith}
-use Rattle.base.proofs.Choices.{none_not_some}
 use Rattle.base.proofs.Lists.{slice_get_is, slice_get-set_other, slice_get-set_same}
 use Rattle.std.proofs.lemmas.List.{drop_more, drop_all, length-set}
 use Rattle.processor.specs.Cpu.{Processor, poked}
@@ -34,7 +34,7 @@ laid_above ws a [] b h = refl
 laid_above ws a (x ∷ xs) b h = laid_above (slice_set ws a x) (suc a) xs b (omega arith) ∙ slice_get-set_other ws a b x (λ e. omega arith)
 
 pub laid_at : (ws : List ℕ) (a : ℕ) (xs : List ℕ) (j : ℕ) (x : ℕ) → a + length xs ≤ length ws → slice_get xs j ≡ Some x → slice_get (laid ws a xs) (a + j) ≡ Some x
-laid_at ws a [] j x h e = absurd (none_not_some e)
+laid_at ws a [] j x h e = absurd (none-some _ e)
 laid_at ws a (y ∷ xs) zero x h e = let q : a + 0 ≡ a = omega arith in rw q (laid_below (slice_set ws a y) (suc a) xs a (omega arith) ∙ slice_get-set_same ws a y (omega arith) ∙ e)
 laid_at ws a (y ∷ xs) (suc j) x h e = let q : a + suc j ≡ suc a + j = omega arith in rw q (laid_at (slice_set ws a y) (suc a) xs j x (omega (arith, length-set ws a y)) e)
 

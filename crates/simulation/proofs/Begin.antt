@@ -1,8 +1,8 @@
 -- A program that is loaded stands at its first calls.
+use Rattle.std.proofs.ByRecursion.{All-append}
 use Rattle.std.specs.List.{AllByRecursion}
 use Rattle.std.specs.Prelude.{Some, slice_get}
 use Rattle.std.proofs.Common.{◌≡◌, ℕ, zero, suc, ◌<◌, ◌≤◌, true, List, [], ◌∷◌, ◌++◌, map, length, replicate, sym, refl, ap, subst, arith}
-use Rattle.base.proofs.Lists.{all_append}
 use Rattle.library.specs.Library.{Library, any_version, main_name}
 use Rattle.library.specs.Fine.{LibraryFine}
 use Rattle.library.proofs.Reading.{reads_fine}
@@ -72,7 +72,7 @@ begin t ws gap ins l ls m q er few em el = (
       there = refl;
       next = nowhere_step (l ∷ ls) (RoomOf (length ws) gap) s refl;
       frames = refl;
-      fits = (all_append (FitsPlace kq) q.calls (place_at 0 m ∷ []) fit_calls (main_fits, tt), omega arith);
+      fits = (All-append (FitsPlace kq) q.calls (place_at 0 m ∷ []) fit_calls (main_fits, tt), omega arith);
       matches = record { links = refl; rows = refl };
       idle = record {
         mem = mem';

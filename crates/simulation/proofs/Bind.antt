@@ -1,8 +1,8 @@
 -- A slot that is settled at the first call through it.
-use Rattle.std.proofs.lemmas.Option.{slice_get_within}
+use Rattle.std.proofs.lemmas.Option.{slice_get_within, same_Some}
 use Rattle.std.specs.Prelude.{None, Option, Some, slice_get, slice_set}
 use Rattle.std.proofs.Common.{◌≡◌, ℕ, ◌+◌, ◌<◌, List, length, sym, refl, ap, ◌∙◌, subst, arith}
-use Rattle.base.proofs.Choices.{some_is, opt_some}
+use Rattle.base.proofs.Choices.{opt_some}
 use Rattle.base.proofs.Lists.{slice_get-set_same, slice_get-set_other}
 use Rattle.library.specs.Library.{Symbol, Call, slot, Library}
 use Rattle.links.specs.Links.{Place, Module, Room}
@@ -80,7 +80,7 @@ module _ (k : Layout) (ls : List Library) (m : Room) (s : State) (c : Processor)
   still = held_one s.core.here.cell (code (Call j)) (slice_get-set_other x.1 j s.core.here.cell there other ∙ old)
     where
       old : slice_get x.1 s.core.here.cell ≡ Some (code (Call j))
-      old = let w = held_inv s i s.core.here.cell (code (Call j)) e in let z : w.1 ≡ x.1 = some_is (sym w.3 ∙ x.3) in ap (λ hs. slice_get hs s.core.here.cell) (sym z) ∙ w.4
+      old = let w = held_inv s i s.core.here.cell (code (Call j)) e in let z : w.1 ≡ x.1 = same_Some _ _ (sym w.3 ∙ x.3) in ap (λ hs. slice_get hs s.core.here.cell) (sym z) ∙ w.4
 
       other : s.core.here.cell ≡ j → ⊥
       other g = let w : Some (code (Call j)) ≡ Some (link y None) = sym old ∙ ap (slice_get x.1) g ∙ x.4 in let z : ◌≡◌ {A = ℕ} 0 1 = cc in omega arith

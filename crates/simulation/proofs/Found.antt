@@ -1,10 +1,10 @@
 -- What a symbol means is a cell of a live module, and has an address.
+use Rattle.std.proofs.ByRecursion.{All-append}
 use Rattle.std.proofs.lemmas.Option.{slice_get_within}
 use Rattle.std.specs.List.{AllByRecursion}
 use Rattle.std.specs.Prelude.{None, Option, Some}
 use Rattle.std.proofs.Common.{◌≡◌, ℕ, ◌<◌, List, [], ◌∷◌, length, refl, arith}
 use Rattle.base.specs.Choices.{opt}
-use Rattle.base.proofs.Lists.{all_append}
 use Rattle.library.specs.Library.{Symbol, Library}
 use Rattle.library.specs.Fine.{LibraryFine}
 use Rattle.links.specs.Links.{Place, Module}
@@ -36,7 +36,7 @@ module _ (k : Layout) (ms : List Module) (u total : ℕ) (g : Ground k ms u tota
 
   pub calls_fit : (f : Library → List ℕ) → ((l : Library) → LibraryFine l → AllByRecursion (λ j. j < length l.cells) (f l)) → (js : List ℕ) → AllByRecursion (FitsPlace k) (calls_of f ms js)
   calls_fit f h [] = tt
-  calls_fit f h (j ∷ js) = all_append (FitsPlace k) (opt (live_at ms j) [] (λ x. places j (f x.lib))) (calls_of f ms js) (go (live_at ms j) refl) (calls_fit f h js)
+  calls_fit f h (j ∷ js) = All-append (FitsPlace k) (opt (live_at ms j) [] (λ x. places j (f x.lib))) (calls_of f ms js) (go (live_at ms j) refl) (calls_fit f h js)
     where
       go : (o : Option Module) → live_at ms j ≡ o → AllByRecursion (FitsPlace k) (opt o [] (λ x. places j (f x.lib)))
       go None e = tt

@@ -1,11 +1,10 @@
 -- Images as they are laid down, and the cells and words of new modules, one by one.
-use Rattle.std.proofs.lemmas.Option.{slice_get_within}
+use Rattle.std.proofs.lemmas.Option.{slice_get_within, same_Some}
 use Rattle.std.specs.Prelude.{Option, Some, cond, slice_get}
 use Rattle.std.proofs.Common.{◌≡◌, ℕ, zero, suc, ◌+◌, ◌<◌, ◌≤◌, Bool, true, false, ◌⊎◌, List, [], ◌∷◌, ◌++◌, map, length, sym, refl, ap, ◌∙◌, subst₂, inl, inr, ⊎_elim, append_assoc, arith}
 use Rattle.std.proofs.lemmas.List.{length_push}
 use Rattle.base.specs.Choices.{opt}
 use Rattle.base.specs.Names.{Name, same}
-use Rattle.base.proofs.Choices.{some_is}
 use Rattle.base.proofs.Lists.{slice_get_right}
 use Rattle.base.proofs.Names.{same_is}
 use Rattle.library.specs.Library.{Cell, Library, find_library}
@@ -69,7 +68,7 @@ length_words to b f a (c ∷ cs) = ap suc (length_words to b f (suc a) cs)
 -- the numbers of new modules
 pub slice_get_new : (ks : Links) (a n d : ℕ) (hs : List Held) → slice_get (new_cells ks (up_from a n)) d ≡ Some hs → hs ≡ opt (slice_get ks.modules (a + d)) [] (λ x. first_helds ks (a + d) x.lib.cells)
 slice_get_new ks a zero d hs e = let z : ◌≡◌ {A = ℕ} 0 1 = cc in absurd (omega arith)
-slice_get_new ks a (suc n) zero hs e = let q : a + 0 ≡ a = omega arith in rw q (sym (some_is e))
+slice_get_new ks a (suc n) zero hs e = let q : a + 0 ≡ a = omega arith in rw q (sym (same_Some _ _ e))
 slice_get_new ks a (suc n) (suc d) hs e = let q : a + suc d ≡ suc a + d = omega arith in rw q (slice_get_new ks (suc a) n d hs e)
 
 pub length_new : (ks : Links) (a n : ℕ) → length (new_cells ks (up_from a n)) ≡ n
@@ -106,5 +105,5 @@ found_name [] x l e = let z : ◌≡◌ {A = ℕ} 0 1 = cc in absurd (omega arit
 found_name (y ∷ ls) x l e = go (same y.name x) refl e (found_name ls x l)
   where
     go : (b : Bool) → same y.name x ≡ b → cond b (Some y) (find_library ls x) ≡ Some l → (find_library ls x ≡ Some l → l.name ≡ x) → l.name ≡ x
-    go true q e r = ap (λ z. z.name) (sym (some_is e)) ∙ same_is y.name x q
+    go true q e r = ap (λ z. z.name) (sym (same_Some _ _ e)) ∙ same_is y.name x q
     go false q e r = r e

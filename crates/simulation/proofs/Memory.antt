@@ -1,11 +1,11 @@
 -- Cells and words that are written; no two live cells share an address.
 use Rattle.std.proofs.lemmas.List.{length-set}
-use Rattle.std.proofs.lemmas.Option.{slice_get_within}
+use Rattle.std.proofs.lemmas.Option.{slice_get_within, same_Some}
 use Rattle.std.specs.Prelude.{None, Option, Some, cond, slice_get, slice_set}
 use Rattle.std.proofs.Common.{◌≡◌, ℕ, ◌+◌, ◌%◌, ◌<◌, eqb, List, length, sym, refl, ap, ◌∙◌, subst, subst₂, ⊎_elim, arith}
 use Rattle.std.proofs.lemmas.Bool.{ne_eqb, cases_eq}
 use Rattle.base.specs.Choices.{opt}
-use Rattle.base.proofs.Choices.{some_is, opt_some}
+use Rattle.base.proofs.Choices.{opt_some}
 use Rattle.base.proofs.Lists.{slice_get-set_same, slice_get-set_other}
 use Rattle.library.specs.Library.{Symbol, Sto, Call, slot, Library}
 use Rattle.library.specs.Fine.{Fine}
@@ -59,7 +59,7 @@ module _ (ls : List Library) (k : Layout) (ks : Links) (css : List (List Held)) 
           other_cell q = let t = kx.cell b g (sym (slice_get-set_other hs j b h q) ∙ e) in (t.0, slice_get-set_other ws (base_of k i + j) (base_of k i + b) w (λ r. q (omega arith)) ∙ t.1, t.2)
 
       slot_here : (b : ℕ) (y : Symbol) (o : Option Value) → slice_get (slice_set hs j h) b ≡ Some (link y o) → slice_get x.lib.cells b ≡ Some (slot y)
-      slot_here b y o e = ⊎_elim (λ q. ap (slice_get x.lib.cells) q ∙ sl y o (some_is (sym (slice_get-set_same hs j h (slice_get_within hs j old ej)) ∙ ap (slice_get (slice_set hs j h)) (sym q) ∙ e))) (λ q. kx.slots b y o (sym (slice_get-set_other hs j b h q) ∙ e)) (cases_eq b j)
+      slot_here b y o e = ⊎_elim (λ q. ap (slice_get x.lib.cells) q ∙ sl y o (same_Some _ _ (sym (slice_get-set_same hs j h (slice_get_within hs j old ej)) ∙ ap (slice_get (slice_set hs j h)) (sym q) ∙ e))) (λ q. kx.slots b y o (sym (slice_get-set_other hs j b h q) ∙ e)) (cases_eq b j)
 
       here : (a : ℕ) (z : Module) (gs : List Held) → a ≡ i → live_at ks.modules a ≡ Some z → slice_get (slice_set css i (slice_set hs j h)) a ≡ Some gs → Kept ls k (slice_set ws (base_of k i + j) w) a z gs
       here a z gs p e q = subst₂ (λ b g. Kept ls k (slice_set ws (base_of k i + j) w) b z g) (sym p) hg (subst (λ y. Kept ls k (slice_set ws (base_of k i + j) w) i y (slice_set hs j h)) xz (record {
@@ -69,10 +69,10 @@ module _ (ls : List Library) (k : Layout) (ks : Links) (css : List (List Held)) 
       }))
         where
           xz : x ≡ z
-          xz = some_is (sym ei ∙ ap (live_at ks.modules) (sym p) ∙ e)
+          xz = same_Some _ _ (sym ei ∙ ap (live_at ks.modules) (sym p) ∙ e)
 
           hg : slice_set hs j h ≡ gs
-          hg = some_is (sym (slice_get-set_same css i (slice_set hs j h) (slice_get_within css i hs es)) ∙ ap (slice_get (slice_set css i (slice_set hs j h))) (sym p) ∙ q)
+          hg = same_Some _ _ (sym (slice_get-set_same css i (slice_set hs j h) (slice_get_within css i hs es)) ∙ ap (slice_get (slice_set css i (slice_set hs j h))) (sym p) ∙ q)
 
       other : (a : ℕ) (z : Module) (gs : List Held) → (a ≡ i → ⊥) → live_at ks.modules a ≡ Some z → slice_get (slice_set css i (slice_set hs j h)) a ≡ Some gs → Kept ls k (slice_set ws (base_of k i + j) w) a z gs
       other a z gs p e q = let kz = mem.cells a z gs e (sym (slice_get-set_other css i a (slice_set hs j h) p) ∙ q) in record {

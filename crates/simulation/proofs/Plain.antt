@@ -1,4 +1,5 @@
 -- Instructions that the processor does by itself.
+use Rattle.std.proofs.ByRecursion.{All-set}
 use Rattle.std.proofs.lemmas.List.{map-set}
 use Rattle.std.proofs.lemmas.Option.{slice_get-map}
 use Rattle.std.specs.List.{AllByRecursion}
@@ -8,7 +9,7 @@ use Rattle.std.proofs.Common.{◌≡◌, ℕ, suc, ◌+◌, ◌%◌, ◌<◌, Bo
 use Rattle.std.proofs.lemmas.Bool.{ne_eqb}
 use Rattle.base.specs.Choices.{opt}
 use Rattle.base.proofs.Choices.{on_some_inv}
-use Rattle.base.proofs.Lists.{all_slice_get, all_set}
+use Rattle.base.proofs.Lists.{all_slice_get}
 use Rattle.library.specs.Library.{Set, Get, Own, Move, Jump, If0, Callr, Ret, Push, Pop, Out, In, Library}
 use Rattle.library.specs.Fine.{Fine}
 use Rattle.links.specs.Links.{Place, place_at, Module, Room}
@@ -43,7 +44,7 @@ addr_word k t v l f = omega (arith, addr_small k t v l f)
 
 -- a value that is put among others
 pub values_put : (k : Layout) (vs : List Value) (ns : List ℕ) (r : ℕ) (v : Value) → Values k vs ns → Fits k v → Values k (slice_set vs r v) (slice_set ns r (addr k v))
-values_put k vs ns r v x f = record { are = rw (x.are, map-set) refl; fit = all_set (Fits k) vs r v x.fit f }
+values_put k vs ns r v x f = record { are = rw (x.are, map-set) refl; fit = All-set (Fits k) vs r v f x.fit }
 
 -- a cell that holds something, taken apart
 pub held_inv : (s : State) (i j : ℕ) (h : Held) → state.held_at s i j ≡ Some h → (x : Module) × (hs : List Held) × (live_at s.links.modules i ≡ Some x) × (slice_get s.cells i ≡ Some hs) × (slice_get hs j ≡ Some h)

@@ -1,11 +1,10 @@
 -- Modules that keep their libraries, and of which some may be gone: their memory stays as it is.
 use Rattle.std.proofs.lemmas.List.{length-set}
-use Rattle.std.proofs.lemmas.Option.{slice_get_within}
+use Rattle.std.proofs.lemmas.Option.{slice_get_within, same_Some}
 use Rattle.std.specs.Prelude.{None, Option, Some, slice_get, slice_set}
 use Rattle.std.proofs.Common.{◌≡◌, ℕ, true, List, [], ◌∷◌, length, sym, refl, ap, ◌∙◌, ⊎_elim, arith}
 use Rattle.std.proofs.lemmas.Bool.{cases_eq}
 use Rattle.base.specs.Choices.{opt}
-use Rattle.base.proofs.Choices.{some_is}
 use Rattle.base.proofs.Lists.{slice_get-set_same, slice_get-set_other}
 use Rattle.library.specs.Library.{Library}
 use Rattle.links.specs.Links.{Module, Links, with_modules}
@@ -25,7 +24,7 @@ pub under_put : (ms : List Module) (i : ℕ) (y z : Module) → slice_get ms i �
 under_put ms i y z e l v = record { count = length-set ms i z; old = λ j x q. ⊎_elim (λ p. here j x p q) (λ p. (x, sym (slice_get-set_other ms i j z p) ∙ q, refl, λ h. h)) (cases_eq j i) }
   where
     here : (j : ℕ) (x : Module) → j ≡ i → slice_get (slice_set ms i z) j ≡ Some x → (y : Module) × (slice_get ms j ≡ Some y) × (y.lib ≡ x.lib) × (x.live ≡ true → y.live ≡ true)
-    here j x p q = let r : z ≡ x = some_is (sym (slice_get-set_same ms i z (slice_get_within ms i y e)) ∙ ap (slice_get (slice_set ms i z)) (sym p) ∙ q) in (y, ap (slice_get ms) p ∙ e, l ∙ ap (λ t. t.lib) r, λ h. v (ap (λ t. t.live) r ∙ h))
+    here j x p q = let r : z ≡ x = same_Some _ _ (sym (slice_get-set_same ms i z (slice_get_within ms i y e)) ∙ ap (slice_get (slice_set ms i z)) (sym p) ∙ q) in (y, ap (slice_get ms) p ∙ e, l ∙ ap (λ t. t.lib) r, λ h. v (ap (λ t. t.live) r ∙ h))
 
 module _ (ms ms' : List Module) (w : Under ms ms') where
   live_under : (i : ℕ) (x : Module) → live_at ms' i ≡ Some x → (y : Module) × (live_at ms i ≡ Some y) × (y.lib ≡ x.lib)
