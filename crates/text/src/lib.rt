@@ -3,5 +3,4 @@
 
 pub mod number;
 pub mod reader;
-pub mod reading;
 pub mod words;
