@@ -1,5 +1,5 @@
 -- What a reader has still to read.
-use Rattle.std.specs.Prelude.{ℕ, suc, ◌≤◌, List, [], length}
+use Rattle.std.specs.Prelude.{◌≡◌, ℕ, suc, ◌+◌, ◌≤◌, List, [], ◌∷◌, length, Option, MatchOption}
 use Rattle.std.specs.List.{between}
 use Rattle.base.specs.Choices.{opt}
 use Rattle.base.specs.Names.{Name}
@@ -26,3 +26,7 @@ words r = full (pieces 32 r)
 -- how many bytes are left, and one; 0 where nothing is left
 unfoldable pub size : Reader → ℕ
 size r = opt r.rest 0 (λ s. suc (length (bytes r.text.now s)))
+
+-- a call that gave the next line, if there was one
+abbrev pub NextLine : Reader → Option Span → Reader → Type 0
+NextLine s r t = (t.text.now ≡ s.text.now) × MatchOption r ((pieces 10 s ≡ []) × (t ≡ s)) (λ x. Within s.text.now x × (pieces 10 s ≡ bytes s.text.now x ∷ pieces 10 t) × (size t + suc (length (bytes s.text.now x)) ≤ size s))
