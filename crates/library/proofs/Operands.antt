@@ -8,7 +8,7 @@ use Rattle.text.specs.Words.{digits, below}
 use Rattle.library.specs.Library as library
 use Rattle.library.specs.Library.{Instruction, Cell, number, ref, at, slot, named}
 use Rattle.library.specs.Keywords.{k_all, k_inner, k_must, k_may, k_word, k_ref, k_at, k_slot, k_name, k_inward, k_needs, k_def, k_init, k_fini}
-use Rattle.library.specs.Lines.{Read, Reads, number_below, a_register, a_cell, a_number, a_word, either, takes, end_line, one_operand, two_operands, three_operands, a_symbol, defined, ternary, unary_of, operands, opcode_of, instruction_line, cell_line, Item, inward, needs, define, init, fini, cell, item_line}
+use Rattle.library.specs.Lines.{Read, Reads, number_below, a_register, a_cell, a_number, a_word, either, takes, end_line, both, three, one_operand, two_operands, three_operands, a_symbol, defined, ternary, unary_of, operands, opcode_of, instruction_line, cell_line, Item, inward, needs, define, init, fini, cell, item_line}
 use Rattle.library.specs.Text.{cell_reach, item_reach}
 use Rattle.library.specs.Fine.{Fine, CellFine}
 use Rattle.library.specs.declared.faults.LineFault.{LineFault}
@@ -79,27 +79,49 @@ any_of {A = A} f = record { all = λ ws. go (f ws) }
     go (Ok p) = tt
     go (Err e) = tt
 
+both_give : {A B : Type 0} {P : A → Type 0} {R : B → Type 0} {f : Reads A} {g : Reads B} → Gives P f → Gives R g → Gives (λ p. P p.0 × R p.1) (both f g)
+both_give {A = A} {B = B} {P = P} {R = R} {f = f} {g = g} p r = record { all = λ ws. first (f ws) (p.all ws) }
+  where
+    second : (a : A) → P a → (o : Read (B × List Name)) → WhereOk (λ x. R x.0) o → WhereOk (λ x. P x.0.0 × R x.0.1) (on_ok {A = B × List Name} {C = (A × B) × List Name} o (λ q. Ok ((a, q.0), q.1)))
+    second a h (Ok x) q = (h, q)
+    second a h (Err e) q = tt
+
+    first : (o : Read (A × List Name)) → WhereOk (λ x. P x.0) o → WhereOk (λ x. P x.0.0 × R x.0.1) (on_ok {A = A × List Name} {C = (A × B) × List Name} o (λ p. on_ok (g p.1) (λ q. Ok ((p.0, q.0), q.1))))
+    first (Ok x) q = second x.0 q (g x.1) (r.all x.1)
+    first (Err e) q = tt
+
+three_give : {A B D : Type 0} {P : A → Type 0} {R : B → Type 0} {S : D → Type 0} {f : Reads A} {g : Reads B} {h : Reads D} → Gives P f → Gives R g → Gives S h → Gives (λ p. P p.0 × R p.1 × S p.2) (three f g h)
+three_give {A = A} {B = B} {D = D} {P = P} {R = R} {S = S} {f = f} {g = g} {h = h} p r s = record { all = λ ws. first (f ws) (p.all ws) }
+  where
+    third : (a : A) (b : B) → P a → R b → (o : Read (D × List Name)) → WhereOk (λ x. S x.0) o → WhereOk (λ x. P x.0.0 × R x.0.1 × S x.0.2) (on_ok {A = D × List Name} {C = (A × B × D) × List Name} o (λ r. Ok ((a, b, r.0), r.1)))
+    third a b u v (Ok x) q = (u, v, q)
+    third a b u v (Err e) q = tt
+
+    second : (a : A) → P a → (o : Read (B × List Name)) → WhereOk (λ x. R x.0) o → WhereOk (λ x. P x.0.0 × R x.0.1 × S x.0.2) (on_ok {A = B × List Name} {C = (A × B × D) × List Name} o (λ q. on_ok (h q.1) (λ r. Ok ((a, q.0, r.0), r.1))))
+    second a u (Ok x) q = third a x.0 u q (h x.1) (s.all x.1)
+    second a u (Err e) q = tt
+
+    first : (o : Read (A × List Name)) → WhereOk (λ x. P x.0) o → WhereOk (λ x. P x.0.0 × R x.0.1 × S x.0.2) (on_ok {A = A × List Name} {C = (A × B × D) × List Name} o (λ p. on_ok (g p.1) (λ q. on_ok (h q.1) (λ r. Ok ((p.0, q.0, r.0), r.1)))))
+    first (Ok x) q = second x.0 q (g x.1) (r.all x.1)
+    first (Err e) q = tt
+
 -- what holds of lines with one, two and three operands
 one_all : {A C : Type 0} {P : A → Type 0} {f : Reads A} (Q : C → Type 0) → Gives P f → (make : A → C) (ws : List Name) → ((a : A) → P a → Q (make a)) → WhereOk Q (one_operand f make ws)
 one_all {A = A} {P = P} {f = f} Q p make ws h = go (f ws) (p.all ws)
   where
-    go : (r : Read (A × List Name)) → WhereOk (λ x. P x.0) r → WhereOk Q (on_ok r (λ x. end_line (make x.0) x.1))
-    go (Ok x) q = end_all Q _ x.1 (h x.0 q)
+    ended : (a : A) (xs : List Name) → P a → WhereOk Q (on_ok (end_line a xs) (λ x. Ok (make x)))
+    ended a [] q = h a q
+    ended a (x ∷ xs) q = tt
+
+    go : (r : Read (A × List Name)) → WhereOk (λ x. P x.0) r → WhereOk Q (on_ok (on_ok r (λ x. end_line x.0 x.1)) (λ x. Ok (make x)))
+    go (Ok x) q = ended x.0 x.1 q
     go (Err e) q = tt
 
 two_all : {A B C : Type 0} {P : A → Type 0} {R : B → Type 0} {f : Reads A} {g : Reads B} (Q : C → Type 0) → Gives P f → Gives R g → (make : A → B → C) (ws : List Name) → ((a : A) (b : B) → P a → R b → Q (make a b)) → WhereOk Q (two_operands f g make ws)
-two_all {A = A} {P = P} {f = f} {g = g} Q p r make ws h = go (f ws) (p.all ws)
-  where
-    go : (o : Read (A × List Name)) → WhereOk (λ x. P x.0) o → WhereOk Q (on_ok o (λ x. one_operand g (make x.0) x.1))
-    go (Ok x) q = one_all Q r (make x.0) x.1 (λ b. h x.0 b q)
-    go (Err e) q = tt
+two_all Q p r make ws h = one_all Q (both_give p r) (λ x. make x.0 x.1) ws (λ x q. h x.0 x.1 q.0 q.1)
 
 three_all : {A B D C : Type 0} {P : A → Type 0} {R : B → Type 0} {S : D → Type 0} {f : Reads A} {g : Reads B} {k : Reads D} (Q : C → Type 0) → Gives P f → Gives R g → Gives S k → (make : A → B → D → C) (ws : List Name) → ((a : A) (b : B) (d : D) → P a → R b → S d → Q (make a b d)) → WhereOk Q (three_operands f g k make ws)
-three_all {A = A} {P = P} {f = f} {g = g} {k = k} Q p r s make ws h = go (f ws) (p.all ws)
-  where
-    go : (o : Read (A × List Name)) → WhereOk (λ x. P x.0) o → WhereOk Q (on_ok o (λ x. two_operands g k (make x.0) x.1))
-    go (Ok x) q = two_all Q r s (make x.0) x.1 (λ b d. h x.0 b d q)
-    go (Err e) q = tt
+three_all Q p r s make ws h = one_all Q (three_give p r s) (λ x. make x.0 x.1 x.2) ws (λ x q. h x.0 x.1 x.2 q.0 q.1 q.2)
 
 ternary_fine : (o : Arithmetic) (a b c : ℕ) → a < 8 → b < 8 → c < 8 → Fine (ternary o a b c)
 ternary_fine arithmetic.Add a b c p q r = (p, q, r)

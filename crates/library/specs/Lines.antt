@@ -61,17 +61,29 @@ end_line c (w ∷ ws) = Err SurplusWord
 abbrev pub Reads : Type 0 → Type 0
 Reads A = List Name → Read (A × List Name)
 
--- an operand, and the end of the line
+-- two operands, one behind the other
+abbrev pub both : {A B : Type 0} → Reads A → Reads B → Reads (A × B)
+both f g ws = on_ok (f ws) (λ p. on_ok (g p.1) (λ q. Ok ((p.0, q.0), q.1)))
+
+-- three operands
+abbrev pub three : {A B D : Type 0} → Reads A → Reads B → Reads D → Reads (A × B × D)
+three f g h ws = on_ok (f ws) (λ p. on_ok (g p.1) (λ q. on_ok (h q.1) (λ r. Ok ((p.0, q.0, r.0), r.1))))
+
+-- a line that has these operands and nothing else
+abbrev pub whole : {A : Type 0} → Reads A → List Name → Read A
+whole f ws = on_ok (f ws) (λ p. end_line p.0 p.1)
+
+-- a line with an operand
 abbrev pub one_operand : {A C : Type 0} → Reads A → (A → C) → List Name → Read C
-one_operand f make ws = on_ok (f ws) (λ p. end_line (make p.0) p.1)
+one_operand f make ws = on_ok (whole f ws) (λ a. Ok (make a))
 
--- two operands, and the end of the line
+-- a line with two operands
 abbrev pub two_operands : {A B C : Type 0} → Reads A → Reads B → (A → B → C) → List Name → Read C
-two_operands f g make ws = on_ok (f ws) (λ p. one_operand g (make p.0) p.1)
+two_operands f g make ws = one_operand (both f g) (λ p. make p.0 p.1) ws
 
--- three operands, and the end of the line
+-- a line with three operands
 abbrev pub three_operands : {A B D C : Type 0} → Reads A → Reads B → Reads D → (A → B → D → C) → List Name → Read C
-three_operands f g h make ws = on_ok (f ws) (λ p. two_operands g h (make p.0) p.1)
+three_operands f g h make ws = one_operand (three f g h) (λ p. make p.0 p.1 p.2) ws
 
 -- an instruction with three registers
 abbrev pub ternary : Arithmetic → ℕ → ℕ → ℕ → Instruction
@@ -130,7 +142,7 @@ instruction_line w ws = opt (opcode_of w) (Err UnknownKeyword) (λ k. operands k
 
 -- a name and a version
 abbrev pub a_symbol : Reads Symbol
-a_symbol ws = on_ok (takes a_word ws) (λ p. on_ok (takes a_word p.1) (λ q. Ok (record { name = p.0; version = q.0 }, q.1)))
+a_symbol ws = on_ok (both (takes a_word) (takes a_word) ws) (λ p. Ok (record { name = p.0.0; version = p.0.1 }, p.1))
 
 -- a line that says a cell
 abbrev pub cell_line : Name → List Name → Read Cell
