@@ -11,7 +11,7 @@ mod keywords;
 use crate::keywords::opcode;
 use library::faults::LineFault;
 use library::types::{Arithmetic, Instruction, Opcode, Register, Unary};
-use operands::{end, only, Global};
+use operands::{Global, end, only};
 use text::reader::Reader;
 
 fn ternary(op: Arithmetic, a: Register, b: Register, c: Register) -> Instruction

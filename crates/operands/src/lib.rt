@@ -10,7 +10,6 @@ mod words;
 
 pub use crate::operand::{Global, Inner, Must, Operand};
 pub use crate::words::{end, word};
-
 use library::faults::LineFault;
 use text::reader::Reader;
 
