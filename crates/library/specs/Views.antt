@@ -3,6 +3,7 @@ use Rattle.std.specs.Prelude.{ℕ}
 use Rattle.base.specs.Names.{Name}
 use Rattle.library.specs.Library as library
 use Rattle.library.specs.declared.types.Register.{Register}
+use Rattle.library.specs.declared.types.Register.TheVariants.{R0, R1, R2, R3, R4, R5, R6, R7}
 use Rattle.library.specs.declared.types.CellNo.{CellNo}
 use Rattle.library.specs.declared.types.Instruction.{Instruction}
 use Rattle.library.specs.declared.types.Instruction.TheVariants as code
@@ -13,7 +14,14 @@ use Rattle.library.specs.declared.types.Cell.TheVariants as cells
 
 -- a register's number
 abbrev pub reg : Register → ℕ
-reg r = r.number
+reg R0 = 0
+reg R1 = 1
+reg R2 = 2
+reg R3 = 3
+reg R4 = 4
+reg R5 = 5
+reg R6 = 6
+reg R7 = 7
 
 -- a cell's number
 abbrev pub cell_no : CellNo → ℕ
