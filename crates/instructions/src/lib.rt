@@ -7,16 +7,11 @@ ghost use Rattle.library.specs.Lines.{operands, instruction_line, ternary, unary
 ghost use Rattle.library.specs.Views.{instruction_of, reg};
 
 mod keywords;
-mod shapes;
 
 use crate::keywords::opcode;
-use crate::shapes::{
-    one_cell, one_reg, reg_cell, reg_cell_choice, reg_num, reg_num_reg, reg_reg_cell, reg_reg_num,
-    three_regs, two_regs,
-};
 use library::faults::LineFault;
 use library::types::{Arithmetic, Instruction, Opcode, Register, Unary};
-use operands::end;
+use operands::{Global, end, only};
 use text::reader::Reader;
 
 fn ternary(op: Arithmetic, a: Register, b: Register, c: Register) -> Instruction
@@ -51,46 +46,46 @@ fn operands(op: Opcode, line: &mut Reader) -> Result<Instruction, LineFault>
 {
     match op {
         Opcode::Set => {
-            let (a, b) = reg_num(line)?;
+            let (a, b) = only(line)?;
             Ok(Instruction::Set(a, b))
         }
         Opcode::Get => {
-            let (a, b, c) = reg_reg_num(line)?;
+            let (a, b, c) = only(line)?;
             Ok(Instruction::Get(a, b, c))
         }
         Opcode::Sto => {
-            let (a, b, c) = reg_num_reg(line)?;
+            let (a, b, c) = only(line)?;
             Ok(Instruction::Sto(a, b, c))
         }
         Opcode::Own => {
-            let (a, b) = reg_cell(line)?;
+            let (a, b) = only(line)?;
             Ok(Instruction::Own(a, b))
         }
         Opcode::Arithmetic(op) => {
-            let (a, b, c) = three_regs(line)?;
+            let (a, b, c) = only(line)?;
             Ok(ternary(op, a, b, c))
         }
         Opcode::Move => {
-            let (a, b) = two_regs(line)?;
+            let (a, b) = only(line)?;
             Ok(Instruction::Move(a, b))
         }
-        Opcode::Jump => Ok(Instruction::Jump(one_cell(line)?)),
+        Opcode::Jump => Ok(Instruction::Jump(only(line)?)),
         Opcode::If0 => {
-            let (a, b) = reg_cell(line)?;
+            let (a, b) = only(line)?;
             Ok(Instruction::If0(a, b))
         }
-        Opcode::Call => Ok(Instruction::Call(one_cell(line)?)),
+        Opcode::Call => Ok(Instruction::Call(only(line)?)),
         Opcode::Ret => {
             end(line)?;
             Ok(Instruction::Ret)
         }
-        Opcode::Unary(op) => Ok(unary(op, one_reg(line)?)),
+        Opcode::Unary(op) => Ok(unary(op, only(line)?)),
         Opcode::Open => {
-            let (a, b, c) = reg_cell_choice(line)?;
-            Ok(Instruction::Open(a, b, c))
+            let (a, b, Global(global)) = only(line)?;
+            Ok(Instruction::Open(a, b, global))
         }
         Opcode::Find => {
-            let (a, b, c) = reg_reg_cell(line)?;
+            let (a, b, c) = only(line)?;
             Ok(Instruction::Find(a, b, c))
         }
     }
@@ -100,8 +95,6 @@ fn operands(op: Opcode, line: &mut Reader) -> Result<Instruction, LineFault>
 pub fn instruction(keyword: &[u8], line: &mut Reader) -> Result<Instruction, LineFault>
     ensures { MatchResult result (λ i. instruction_line keyword.now (words line.old) ≡ Ok (instruction_of i)) (λ e. instruction_line keyword.now (words line.old) ≡ Err e) }
 {
-    match opcode(keyword) {
-        Some(op) => operands(op, line),
-        None => Err(LineFault::UnknownKeyword),
-    }
+    let op = opcode(keyword).ok_or(LineFault::UnknownKeyword)?;
+    operands(op, line)
 }

@@ -5,9 +5,10 @@ use Rattle.base.specs.Choices.{opt, on_some, guard, on_ok, WhereOk}
 use Rattle.base.specs.Names.{Name, same}
 use Rattle.base.proofs.Choices.{cond_ok, on_ok_if}
 use Rattle.text.specs.Words.{digits, below}
-use Rattle.library.specs.Library.{Instruction, Cell}
+use Rattle.library.specs.Library as library
+use Rattle.library.specs.Library.{Instruction, Cell, number, ref, at, slot, named}
 use Rattle.library.specs.Keywords.{k_all, k_inner, k_must, k_may, k_word, k_ref, k_at, k_slot, k_name, k_inward, k_needs, k_def, k_init, k_fini}
-use Rattle.library.specs.Lines.{Read, number_below, a_register, a_cell, a_number, a_word, either, then, end_line, three_regs, one_reg, ternary, unary_of, operands, opcode_of, instruction_line, cell_line, Item, inward, needs, define, init, fini, cell, item_line}
+use Rattle.library.specs.Lines.{Read, Reads, number_below, a_register, a_cell, a_number, a_word, either, takes, end_line, both, three, one_operand, two_operands, three_operands, a_symbol, defined, ternary, unary_of, operands, opcode_of, instruction_line, cell_line, Item, inward, needs, define, init, fini, cell, item_line}
 use Rattle.library.specs.Text.{cell_reach, item_reach}
 use Rattle.library.specs.Fine.{Fine, CellFine}
 use Rattle.library.specs.declared.faults.LineFault.{LineFault}
@@ -19,14 +20,6 @@ use Rattle.library.specs.declared.types.Unary.TheVariants as unary
 use Rattle.library.specs.declared.types.Opcode.{Opcode}
 use Rattle.library.specs.declared.types.Opcode.TheVariants as opcode
 use Rattle.std.proofs.lemmas.Bool.{ltb-true}
-
-then_all : {A C : Type 0} (P : C → Type 0) (f : Name → Read A) (ws : List Name) (g : A → List Name → Read C) → ((w : Name) (a : A) (us : List Name) → f w ≡ Ok a → WhereOk P (g a us)) → WhereOk P (then f ws g)
-then_all P f [] g h = tt
-then_all {A = A} P f (w ∷ ws) g h = go (f w) refl
-  where
-    go : (r : Read A) → f w ≡ r → WhereOk P (on_ok {A = A × List Name} (on_ok r (λ a. Ok (a, ws))) (λ p. g p.0 p.1))
-    go (Ok a) e = h w a ws e
-    go (Err q) e = tt
 
 end_all : {C : Type 0} (P : C → Type 0) (c : C) (ws : List Name) → P c → WhereOk P (end_line c ws)
 end_all P c [] p = p
@@ -51,21 +44,84 @@ number_lt f m w n e = go (below m w) refl e
     go None q r = let z : ◌≡◌ {A = ℕ} 0 1 = cc in absurd (omega arith)
     go (Some a) q r = let p : a ≡ n = cc in rw p at (below_lt m w a q)
 
-module _ {C : Type 0} (P : C → Type 0) (ws : List Name) where
-  reg_all : (g : ℕ → List Name → Read C) → ((a : ℕ) (us : List Name) → a < 8 → WhereOk P (g a us)) → WhereOk P (then a_register ws g)
-  reg_all g h = then_all P a_register ws g (λ w a us e. h a us (number_lt _ 8 w a e))
+-- what holds of each value that a reader of a line gives
+record Gives {A : Type 0} (P : A → Type 0) (f : Reads A) : Type 0 where
+  all : (ws : List Name) → WhereOk (λ p. P p.0) (f ws)
 
-  cell_all : (g : ℕ → List Name → Read C) → ((a : ℕ) (us : List Name) → a < 65536 → WhereOk P (g a us)) → WhereOk P (then a_cell ws g)
-  cell_all g h = then_all P a_cell ws g (λ w a us e. h a us (number_lt _ 65536 w a e))
+-- any value
+abbrev Any : {A : Type 0} → A → Type 0
+Any a = Unit
 
-  num_all : (g : ℕ → List Name → Read C) → ((a : ℕ) (us : List Name) → a < 4294967296 → WhereOk P (g a us)) → WhereOk P (then a_number ws g)
-  num_all g h = then_all P a_number ws g (λ w a us e. h a us (number_lt _ 4294967296 w a e))
+takes_gives : {A : Type 0} (P : A → Type 0) (f : Name → Read A) → ((w : Name) (a : A) → f w ≡ Ok a → P a) → Gives P (takes f)
+takes_gives {A = A} P f h = record { all = first }
+  where
+    go : (w : Name) (ws : List Name) (r : Read A) → f w ≡ r → WhereOk (λ p. P p.0) (on_ok {A = A} {C = A × List Name} r (λ a. Ok (a, ws)))
+    go w ws (Ok a) e = h w a e
+    go w ws (Err q) e = tt
 
-three_fine : (f : ℕ → ℕ → ℕ → Instruction) (ws : List Name) → ((a b c : ℕ) → a < 8 → b < 8 → c < 8 → Fine (f a b c)) → WhereOk Fine (three_regs f ws)
-three_fine f ws h = reg_all Fine ws _ (λ a us p. reg_all Fine us _ (λ b vs q. reg_all Fine vs _ (λ c xs r. end_all Fine _ xs (h a b c p q r))))
+    first : (ws : List Name) → WhereOk (λ p. P p.0) (takes f ws)
+    first [] = tt
+    first (w ∷ ws) = go w ws (f w) refl
 
-one_fine : (f : ℕ → Instruction) (ws : List Name) → ((a : ℕ) → a < 8 → Fine (f a)) → WhereOk Fine (one_reg f ws)
-one_fine f ws h = reg_all Fine ws _ (λ a us p. end_all Fine _ us (h a p))
+registers : Gives (λ a. a < 8) (takes a_register)
+registers = takes_gives _ a_register (number_lt _ 8)
+
+cells : Gives (λ a. a < 65536) (takes a_cell)
+cells = takes_gives _ a_cell (number_lt _ 65536)
+
+numbers : Gives (λ a. a < 4294967296) (takes a_number)
+numbers = takes_gives _ a_number (number_lt _ 4294967296)
+
+any_of : {A : Type 0} (f : Reads A) → Gives Any f
+any_of {A = A} f = record { all = λ ws. go (f ws) }
+  where
+    go : (r : Read (A × List Name)) → WhereOk (λ p. Any p.0) r
+    go (Ok p) = tt
+    go (Err e) = tt
+
+both_give : {A B : Type 0} {P : A → Type 0} {R : B → Type 0} {f : Reads A} {g : Reads B} → Gives P f → Gives R g → Gives (λ p. P p.0 × R p.1) (both f g)
+both_give {A = A} {B = B} {P = P} {R = R} {f = f} {g = g} p r = record { all = λ ws. first (f ws) (p.all ws) }
+  where
+    second : (a : A) → P a → (o : Read (B × List Name)) → WhereOk (λ x. R x.0) o → WhereOk (λ x. P x.0.0 × R x.0.1) (on_ok {A = B × List Name} {C = (A × B) × List Name} o (λ q. Ok ((a, q.0), q.1)))
+    second a h (Ok x) q = (h, q)
+    second a h (Err e) q = tt
+
+    first : (o : Read (A × List Name)) → WhereOk (λ x. P x.0) o → WhereOk (λ x. P x.0.0 × R x.0.1) (on_ok {A = A × List Name} {C = (A × B) × List Name} o (λ p. on_ok (g p.1) (λ q. Ok ((p.0, q.0), q.1))))
+    first (Ok x) q = second x.0 q (g x.1) (r.all x.1)
+    first (Err e) q = tt
+
+three_give : {A B D : Type 0} {P : A → Type 0} {R : B → Type 0} {S : D → Type 0} {f : Reads A} {g : Reads B} {h : Reads D} → Gives P f → Gives R g → Gives S h → Gives (λ p. P p.0 × R p.1 × S p.2) (three f g h)
+three_give {A = A} {B = B} {D = D} {P = P} {R = R} {S = S} {f = f} {g = g} {h = h} p r s = record { all = λ ws. first (f ws) (p.all ws) }
+  where
+    third : (a : A) (b : B) → P a → R b → (o : Read (D × List Name)) → WhereOk (λ x. S x.0) o → WhereOk (λ x. P x.0.0 × R x.0.1 × S x.0.2) (on_ok {A = D × List Name} {C = (A × B × D) × List Name} o (λ r. Ok ((a, b, r.0), r.1)))
+    third a b u v (Ok x) q = (u, v, q)
+    third a b u v (Err e) q = tt
+
+    second : (a : A) → P a → (o : Read (B × List Name)) → WhereOk (λ x. R x.0) o → WhereOk (λ x. P x.0.0 × R x.0.1 × S x.0.2) (on_ok {A = B × List Name} {C = (A × B × D) × List Name} o (λ q. on_ok (h q.1) (λ r. Ok ((a, q.0, r.0), r.1))))
+    second a u (Ok x) q = third a x.0 u q (h x.1) (s.all x.1)
+    second a u (Err e) q = tt
+
+    first : (o : Read (A × List Name)) → WhereOk (λ x. P x.0) o → WhereOk (λ x. P x.0.0 × R x.0.1 × S x.0.2) (on_ok {A = A × List Name} {C = (A × B × D) × List Name} o (λ p. on_ok (g p.1) (λ q. on_ok (h q.1) (λ r. Ok ((p.0, q.0, r.0), r.1)))))
+    first (Ok x) q = second x.0 q (g x.1) (r.all x.1)
+    first (Err e) q = tt
+
+-- what holds of lines with one, two and three operands
+one_all : {A C : Type 0} {P : A → Type 0} {f : Reads A} (Q : C → Type 0) → Gives P f → (make : A → C) (ws : List Name) → ((a : A) → P a → Q (make a)) → WhereOk Q (one_operand f make ws)
+one_all {A = A} {P = P} {f = f} Q p make ws h = go (f ws) (p.all ws)
+  where
+    ended : (a : A) (xs : List Name) → P a → WhereOk Q (on_ok (end_line a xs) (λ x. Ok (make x)))
+    ended a [] q = h a q
+    ended a (x ∷ xs) q = tt
+
+    go : (r : Read (A × List Name)) → WhereOk (λ x. P x.0) r → WhereOk Q (on_ok (on_ok r (λ x. end_line x.0 x.1)) (λ x. Ok (make x)))
+    go (Ok x) q = ended x.0 x.1 q
+    go (Err e) q = tt
+
+two_all : {A B C : Type 0} {P : A → Type 0} {R : B → Type 0} {f : Reads A} {g : Reads B} (Q : C → Type 0) → Gives P f → Gives R g → (make : A → B → C) (ws : List Name) → ((a : A) (b : B) → P a → R b → Q (make a b)) → WhereOk Q (two_operands f g make ws)
+two_all Q p r make ws h = one_all Q (both_give p r) (λ x. make x.0 x.1) ws (λ x q. h x.0 x.1 q.0 q.1)
+
+three_all : {A B D C : Type 0} {P : A → Type 0} {R : B → Type 0} {S : D → Type 0} {f : Reads A} {g : Reads B} {k : Reads D} (Q : C → Type 0) → Gives P f → Gives R g → Gives S k → (make : A → B → D → C) (ws : List Name) → ((a : A) (b : B) (d : D) → P a → R b → S d → Q (make a b d)) → WhereOk Q (three_operands f g k make ws)
+three_all Q p r s make ws h = one_all Q (three_give p r s) (λ x. make x.0 x.1 x.2) ws (λ x q. h x.0 x.1 x.2 q.0 q.1 q.2)
 
 ternary_fine : (o : Arithmetic) (a b c : ℕ) → a < 8 → b < 8 → c < 8 → Fine (ternary o a b c)
 ternary_fine arithmetic.Add a b c p q r = (p, q, r)
@@ -84,19 +140,19 @@ unary_fine unary.Close a p = p
 unary_fine unary.End a p = p
 
 operands_fine : (k : Opcode) (ws : List Name) → WhereOk Fine (operands k ws)
-operands_fine opcode.Set ws = reg_all Fine ws _ (λ a us p. num_all Fine us _ (λ n vs q. end_all Fine _ vs (p, q)))
-operands_fine opcode.Get ws = reg_all Fine ws _ (λ a us p. reg_all Fine us _ (λ b vs q. num_all Fine vs _ (λ n xs r. end_all Fine _ xs (p, q, r))))
-operands_fine opcode.Sto ws = reg_all Fine ws _ (λ a us p. num_all Fine us _ (λ b vs q. reg_all Fine vs _ (λ n xs r. end_all Fine _ xs (p, q, r))))
-operands_fine opcode.Own ws = reg_all Fine ws _ (λ a us p. cell_all Fine us _ (λ n vs q. end_all Fine _ vs (p, q)))
-operands_fine (opcode.Arithmetic o) ws = three_fine _ ws (ternary_fine o)
-operands_fine opcode.Move ws = reg_all Fine ws _ (λ a us p. reg_all Fine us _ (λ b vs q. end_all Fine _ vs (p, q)))
-operands_fine opcode.Jump ws = cell_all Fine ws _ (λ a us p. end_all Fine _ us p)
-operands_fine opcode.If0 ws = reg_all Fine ws _ (λ a us p. cell_all Fine us _ (λ n vs q. end_all Fine _ vs (p, q)))
-operands_fine opcode.Call ws = cell_all Fine ws _ (λ a us p. end_all Fine _ us p)
+operands_fine opcode.Set ws = two_all Fine registers numbers library.Set ws (λ a b p q. (p, q))
+operands_fine opcode.Get ws = three_all Fine registers registers numbers library.Get ws (λ a b c p q r. (p, q, r))
+operands_fine opcode.Sto ws = three_all Fine registers numbers registers library.Sto ws (λ a b c p q r. (p, q, r))
+operands_fine opcode.Own ws = two_all Fine registers cells library.Own ws (λ a b p q. (p, q))
+operands_fine (opcode.Arithmetic o) ws = three_all Fine registers registers registers (ternary o) ws (ternary_fine o)
+operands_fine opcode.Move ws = two_all Fine registers registers library.Move ws (λ a b p q. (p, q))
+operands_fine opcode.Jump ws = one_all Fine cells library.Jump ws (λ a p. p)
+operands_fine opcode.If0 ws = two_all Fine registers cells library.If0 ws (λ a b p q. (p, q))
+operands_fine opcode.Call ws = one_all Fine cells library.Call ws (λ a p. p)
 operands_fine opcode.Ret ws = end_all Fine _ ws tt
-operands_fine (opcode.Unary o) ws = one_fine _ ws (unary_fine o)
-operands_fine opcode.Open ws = reg_all Fine ws _ (λ a us p. cell_all Fine us _ (λ n vs q. then_all Fine (either k_all k_inner) vs _ (λ t b xs e. end_all Fine _ xs (p, q))))
-operands_fine opcode.Find ws = reg_all Fine ws _ (λ a us p. reg_all Fine us _ (λ b vs q. cell_all Fine vs _ (λ n xs r. end_all Fine _ xs (p, q, r))))
+operands_fine (opcode.Unary o) ws = one_all Fine registers (unary_of o) ws (unary_fine o)
+operands_fine opcode.Open ws = three_all Fine registers cells (any_of (takes (either k_all k_inner))) library.Open ws (λ a b c p q r. (p, q))
+operands_fine opcode.Find ws = three_all Fine registers registers cells library.Find ws (λ a b c p q r. (p, q, r))
 
 instruction_fine : (w : Name) (ws : List Name) → WhereOk Fine (instruction_line w ws)
 instruction_fine w ws = go (opcode_of w)
@@ -111,11 +167,11 @@ CellOwn c = CellFine (cell_reach c) c
 
 cell_line_fine : (w : Name) (ws : List Name) → WhereOk CellOwn (cell_line w ws)
 cell_line_fine w ws =
-    cond_ok CellOwn (same w k_word) _ _ (num_all CellOwn ws _ (λ a us p. end_all CellOwn _ us p))
-    (cond_ok CellOwn (same w k_ref) _ _ (then_all CellOwn a_word ws _ (λ t x us e. then_all CellOwn a_word us _ (λ t v vs e. num_all CellOwn vs _ (λ n xs p. then_all CellOwn (either k_must k_may) xs _ (λ t b ys e. end_all CellOwn _ ys p)))))
-    (cond_ok CellOwn (same w k_at) _ _ (cell_all CellOwn ws _ (λ a us p. end_all CellOwn _ us (omega arith)))
-    (cond_ok CellOwn (same w k_slot) _ _ (then_all CellOwn a_word ws _ (λ t x us e. then_all CellOwn a_word us _ (λ t v vs e. end_all CellOwn _ vs tt)))
-    (cond_ok CellOwn (same w k_name) _ _ (then_all CellOwn a_word ws _ (λ t x us e. end_all CellOwn _ us tt))
+    cond_ok CellOwn (same w k_word) _ _ (one_all CellOwn numbers number ws (λ a p. p))
+    (cond_ok CellOwn (same w k_ref) _ _ (three_all CellOwn (any_of a_symbol) numbers (any_of (takes (either k_must k_may))) ref ws (λ s n b p q r. q))
+    (cond_ok CellOwn (same w k_at) _ _ (one_all CellOwn cells at ws (λ a p. omega arith))
+    (cond_ok CellOwn (same w k_slot) _ _ (one_all CellOwn (any_of a_symbol) slot ws (λ s p. tt))
+    (cond_ok CellOwn (same w k_name) _ _ (one_all CellOwn (any_of (takes a_word)) named ws (λ x p. tt))
     (on_ok_if CellOwn (instruction_line w ws) _ (λ o e. (subst (WhereOk Fine) e (instruction_fine w ws), omega arith)))))))
 
 -- what a line says, where there are z cells
@@ -130,14 +186,11 @@ ItemFine z (cell c) = CellFine z c
 abbrev pub ItemOwn : Item → Type 0
 ItemOwn i = ItemFine (item_reach i) i
 
-call_fine : (f : ℕ → Item) (ws : List Name) → ((k : ℕ) → ItemOwn (f k)) → WhereOk ItemOwn (then a_cell ws (λ k us. end_line (f k) us))
-call_fine f ws h = cell_all ItemOwn ws _ (λ k us p. end_all ItemOwn _ us (h k))
-
 pub item_line_fine : (w : Name) (ws : List Name) → WhereOk ItemOwn (item_line w ws)
 item_line_fine w ws =
     cond_ok ItemOwn (same w k_inward) _ _ (end_all ItemOwn _ ws tt)
-    (cond_ok ItemOwn (same w k_needs) _ _ (then_all ItemOwn a_word ws _ (λ t x us e. end_all ItemOwn _ us tt))
-    (cond_ok ItemOwn (same w k_def) _ _ (then_all ItemOwn a_word ws _ (λ t x us e. then_all ItemOwn a_word us _ (λ t v vs e. cell_all ItemOwn vs _ (λ k xs p. then_all ItemOwn (either k_inner k_all) xs _ (λ t b ys e. end_all ItemOwn _ ys (omega arith))))))
-    (cond_ok ItemOwn (same w k_init) _ _ (call_fine init ws (λ k. omega arith))
-    (cond_ok ItemOwn (same w k_fini) _ _ (call_fine fini ws (λ k. omega arith))
+    (cond_ok ItemOwn (same w k_needs) _ _ (one_all ItemOwn (any_of (takes a_word)) needs ws (λ x p. tt))
+    (cond_ok ItemOwn (same w k_def) _ _ (three_all ItemOwn (any_of a_symbol) cells (any_of (takes (either k_inner k_all))) defined ws (λ s k b p q r. omega arith))
+    (cond_ok ItemOwn (same w k_init) _ _ (one_all ItemOwn cells init ws (λ k p. omega arith))
+    (cond_ok ItemOwn (same w k_fini) _ _ (one_all ItemOwn cells fini ws (λ k p. omega arith))
     (on_ok_if ItemOwn (cell_line w ws) _ (λ c e. subst (WhereOk CellOwn) e (cell_line_fine w ws)))))))

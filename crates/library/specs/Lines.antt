@@ -57,45 +57,33 @@ abbrev pub end_line : {C : Type 0} → C → List Name → Read C
 end_line c [] = Ok c
 end_line c (w ∷ ws) = Err SurplusWord
 
--- a register and a number
-abbrev pub reg_num : (ℕ → ℕ → Instruction) → List Name → Read Instruction
-reg_num f ws = then a_register ws (λ a xs. then a_number xs (λ b ys. end_line (f a b) ys))
+-- reads what stands first in a line, and gives what is left of it
+abbrev pub Reads : Type 0 → Type 0
+Reads A = List Name → Read (A × List Name)
 
--- two registers and a number
-abbrev pub reg_reg_num : (ℕ → ℕ → ℕ → Instruction) → List Name → Read Instruction
-reg_reg_num f ws = then a_register ws (λ a xs. then a_register xs (λ b ys. then a_number ys (λ c zs. end_line (f a b c) zs)))
+-- two operands, one behind the other
+abbrev pub both : {A B : Type 0} → Reads A → Reads B → Reads (A × B)
+both f g ws = on_ok (f ws) (λ p. on_ok (g p.1) (λ q. Ok ((p.0, q.0), q.1)))
 
--- a register, a number and a register
-abbrev pub reg_num_reg : (ℕ → ℕ → ℕ → Instruction) → List Name → Read Instruction
-reg_num_reg f ws = then a_register ws (λ a xs. then a_number xs (λ b ys. then a_register ys (λ c zs. end_line (f a b c) zs)))
+-- three operands
+abbrev pub three : {A B D : Type 0} → Reads A → Reads B → Reads D → Reads (A × B × D)
+three f g h ws = on_ok (f ws) (λ p. on_ok (g p.1) (λ q. on_ok (h q.1) (λ r. Ok ((p.0, q.0, r.0), r.1))))
 
--- a register and a cell
-abbrev pub reg_cell : (ℕ → ℕ → Instruction) → List Name → Read Instruction
-reg_cell f ws = then a_register ws (λ a xs. then a_cell xs (λ b ys. end_line (f a b) ys))
+-- a line that has these operands and nothing else
+abbrev pub whole : {A : Type 0} → Reads A → List Name → Read A
+whole f ws = on_ok (f ws) (λ p. end_line p.0 p.1)
 
--- three registers
-abbrev pub three_regs : (ℕ → ℕ → ℕ → Instruction) → List Name → Read Instruction
-three_regs f ws = then a_register ws (λ a xs. then a_register xs (λ b ys. then a_register ys (λ c zs. end_line (f a b c) zs)))
+-- a line with an operand
+abbrev pub one_operand : {A C : Type 0} → Reads A → (A → C) → List Name → Read C
+one_operand f make ws = on_ok (whole f ws) (λ a. Ok (make a))
 
--- two registers
-abbrev pub two_regs : (ℕ → ℕ → Instruction) → List Name → Read Instruction
-two_regs f ws = then a_register ws (λ a xs. then a_register xs (λ b ys. end_line (f a b) ys))
+-- a line with two operands
+abbrev pub two_operands : {A B C : Type 0} → Reads A → Reads B → (A → B → C) → List Name → Read C
+two_operands f g make ws = one_operand (both f g) (λ p. make p.0 p.1) ws
 
--- a cell
-abbrev pub one_cell : (ℕ → Instruction) → List Name → Read Instruction
-one_cell f ws = then a_cell ws (λ a xs. end_line (f a) xs)
-
--- a register
-abbrev pub one_reg : (ℕ → Instruction) → List Name → Read Instruction
-one_reg f ws = then a_register ws (λ a xs. end_line (f a) xs)
-
--- a register, a cell, and all or inner
-abbrev pub reg_cell_choice : (ℕ → ℕ → Bool → Instruction) → List Name → Read Instruction
-reg_cell_choice f ws = then a_register ws (λ a xs. then a_cell xs (λ b ys. then (either k_all k_inner) ys (λ c zs. end_line (f a b c) zs)))
-
--- two registers and a cell
-abbrev pub reg_reg_cell : (ℕ → ℕ → ℕ → Instruction) → List Name → Read Instruction
-reg_reg_cell f ws = then a_register ws (λ a xs. then a_register xs (λ b ys. then a_cell ys (λ c zs. end_line (f a b c) zs)))
+-- a line with three operands
+abbrev pub three_operands : {A B D C : Type 0} → Reads A → Reads B → Reads D → (A → B → D → C) → List Name → Read C
+three_operands f g h make ws = one_operand (three f g h) (λ p. make p.0 p.1 p.2) ws
 
 -- an instruction with three registers
 abbrev pub ternary : Arithmetic → ℕ → ℕ → ℕ → Instruction
@@ -117,82 +105,53 @@ unary_of unary.End = library.End
 
 -- the operands of an instruction
 abbrev pub operands : Opcode → List Name → Read Instruction
-operands opcode.Set ws = reg_num library.Set ws
-operands opcode.Get ws = reg_reg_num library.Get ws
-operands opcode.Sto ws = reg_num_reg library.Sto ws
-operands opcode.Own ws = reg_cell library.Own ws
-operands (opcode.Arithmetic o) ws = three_regs (ternary o) ws
-operands opcode.Move ws = two_regs library.Move ws
-operands opcode.Jump ws = one_cell library.Jump ws
-operands opcode.If0 ws = reg_cell library.If0 ws
-operands opcode.Call ws = one_cell library.Call ws
-operands opcode.Ret ws = end_line library.Ret ws
-operands (opcode.Unary o) ws = one_reg (unary_of o) ws
-operands opcode.Open ws = reg_cell_choice library.Open ws
-operands opcode.Find ws = reg_reg_cell library.Find ws
+operands opcode.Set = two_operands (takes a_register) (takes a_number) library.Set
+operands opcode.Get = three_operands (takes a_register) (takes a_register) (takes a_number) library.Get
+operands opcode.Sto = three_operands (takes a_register) (takes a_number) (takes a_register) library.Sto
+operands opcode.Own = two_operands (takes a_register) (takes a_cell) library.Own
+operands (opcode.Arithmetic o) = three_operands (takes a_register) (takes a_register) (takes a_register) (ternary o)
+operands opcode.Move = two_operands (takes a_register) (takes a_register) library.Move
+operands opcode.Jump = one_operand (takes a_cell) library.Jump
+operands opcode.If0 = two_operands (takes a_register) (takes a_cell) library.If0
+operands opcode.Call = one_operand (takes a_cell) library.Call
+operands opcode.Ret = end_line library.Ret
+operands (opcode.Unary o) = one_operand (takes a_register) (unary_of o)
+operands opcode.Open = three_operands (takes a_register) (takes a_cell) (takes (either k_all k_inner)) library.Open
+operands opcode.Find = three_operands (takes a_register) (takes a_register) (takes a_cell) library.Find
 
 -- the entry of a word in a table of keywords
 abbrev pub keyed : {X : Type 0} → List (Name × X) → Name → Option X
 keyed [] w = None
 keyed ((k, x) ∷ xs) w = cond (same w k) (Some x) (keyed xs w)
 
--- the first of two
-abbrev pub or_else : {X : Type 0} → Option X → Option X → Option X
-or_else None o = o
-or_else (Some x) o = Some x
-
--- values and memory
-abbrev pub data_opcodes : List (Name × Opcode)
-data_opcodes = (k_set, opcode.Set) ∷ (k_get, opcode.Get) ∷ (k_sto, opcode.Sto) ∷ (k_own, opcode.Own) ∷ (k_add, opcode.Arithmetic arithmetic.Add) ∷ (k_sub, opcode.Arithmetic arithmetic.Sub) ∷ (k_mul, opcode.Arithmetic arithmetic.Mul) ∷ (k_less, opcode.Arithmetic arithmetic.Less) ∷ (k_same, opcode.Arithmetic arithmetic.Same) ∷ (k_move, opcode.Move) ∷ []
-
--- where it goes on
-abbrev pub flow_opcodes : List (Name × Opcode)
-flow_opcodes = (k_jump, opcode.Jump) ∷ (k_if0, opcode.If0) ∷ (k_call, opcode.Call) ∷ (k_callr, opcode.Unary unary.Callr) ∷ (k_ret, opcode.Ret) ∷ (k_push, opcode.Unary unary.Push) ∷ (k_pop, opcode.Unary unary.Pop) ∷ []
-
--- what is shown, read, opened and ended
-abbrev pub link_opcodes : List (Name × Opcode)
-link_opcodes = (k_out, opcode.Unary unary.Out) ∷ (k_in, opcode.Unary unary.In) ∷ (k_open, opcode.Open) ∷ (k_find, opcode.Find) ∷ (k_close, opcode.Unary unary.Close) ∷ (k_end, opcode.Unary unary.End) ∷ []
+-- the keywords of instructions: on values and memory, on where it goes on and what was pushed, on what is shown, read, opened and ended
+abbrev pub opcodes : List (Name × Opcode)
+opcodes =
+    (k_set, opcode.Set) ∷ (k_get, opcode.Get) ∷ (k_sto, opcode.Sto) ∷ (k_own, opcode.Own)
+    ∷ (k_add, opcode.Arithmetic arithmetic.Add) ∷ (k_sub, opcode.Arithmetic arithmetic.Sub) ∷ (k_mul, opcode.Arithmetic arithmetic.Mul) ∷ (k_less, opcode.Arithmetic arithmetic.Less) ∷ (k_same, opcode.Arithmetic arithmetic.Same) ∷ (k_move, opcode.Move)
+    ∷ (k_jump, opcode.Jump) ∷ (k_if0, opcode.If0) ∷ (k_call, opcode.Call) ∷ (k_callr, opcode.Unary unary.Callr) ∷ (k_ret, opcode.Ret) ∷ (k_push, opcode.Unary unary.Push) ∷ (k_pop, opcode.Unary unary.Pop)
+    ∷ (k_out, opcode.Unary unary.Out) ∷ (k_in, opcode.Unary unary.In) ∷ (k_open, opcode.Open) ∷ (k_find, opcode.Find) ∷ (k_close, opcode.Unary unary.Close) ∷ (k_end, opcode.Unary unary.End) ∷ []
 
 -- the instruction whose keyword a word is
 abbrev pub opcode_of : Name → Option Opcode
-opcode_of w = or_else (keyed data_opcodes w) (or_else (keyed flow_opcodes w) (keyed link_opcodes w))
+opcode_of = keyed opcodes
 
 -- an instruction, by its keyword and the words behind it
 abbrev pub instruction_line : Name → List Name → Read Instruction
 instruction_line w ws = opt (opcode_of w) (Err UnknownKeyword) (λ k. operands k ws)
 
 -- a name and a version
-abbrev pub a_symbol : {C : Type 0} → List Name → (Symbol → List Name → Read C) → Read C
-a_symbol ws g = then a_word ws (λ x us. then a_word us (λ v vs. g (record { name = x; version = v }) vs))
-
--- a line `word`
-abbrev pub number_line : List Name → Read Cell
-number_line ws = then a_number ws (λ n us. end_line (number n) us)
-
--- a line `ref`
-abbrev pub ref_line : List Name → Read Cell
-ref_line ws = a_symbol ws (λ s us. then a_number us (λ n vs. then (either k_must k_may) vs (λ b xs. end_line (ref s n b) xs)))
-
--- a line `at`
-abbrev pub at_line : List Name → Read Cell
-at_line ws = then a_cell ws (λ k us. end_line (at k) us)
-
--- a line `slot`
-abbrev pub slot_line : List Name → Read Cell
-slot_line ws = a_symbol ws (λ s us. end_line (slot s) us)
-
--- a line `name`
-abbrev pub name_line : List Name → Read Cell
-name_line ws = then a_word ws (λ x us. end_line (named x) us)
+abbrev pub a_symbol : Reads Symbol
+a_symbol ws = on_ok (both (takes a_word) (takes a_word) ws) (λ p. Ok (record { name = p.0.0; version = p.0.1 }, p.1))
 
 -- a line that says a cell
 abbrev pub cell_line : Name → List Name → Read Cell
 cell_line w ws =
-    cond (same w k_word) (number_line ws)
-    (cond (same w k_ref) (ref_line ws)
-    (cond (same w k_at) (at_line ws)
-    (cond (same w k_slot) (slot_line ws)
-    (cond (same w k_name) (name_line ws)
+    cond (same w k_word) (one_operand (takes a_number) number ws)
+    (cond (same w k_ref) (three_operands a_symbol (takes a_number) (takes (either k_must k_may)) ref ws)
+    (cond (same w k_at) (one_operand (takes a_cell) at ws)
+    (cond (same w k_slot) (one_operand a_symbol slot ws)
+    (cond (same w k_name) (one_operand (takes a_word) named ws)
     (on_ok (instruction_line w ws) (λ o. Ok (instruction o)))))))
 
 -- what a line says of the library that it stands in
@@ -204,24 +163,16 @@ pub data Item : Type 0 where
   fini : ℕ → Item
   cell : Cell → Item
 
--- a line `needs`
-abbrev pub needs_line : List Name → Read Item
-needs_line ws = then a_word ws (λ x us. end_line (needs x) us)
-
--- a line `def`
-abbrev pub def_line : List Name → Read Item
-def_line ws = a_symbol ws (λ s us. then a_cell us (λ k vs. then (either k_inner k_all) vs (λ b xs. end_line (define (record { symbol = s; cell = k; inner = b })) xs)))
-
--- a line `init` or `fini`
-abbrev pub call_line : (ℕ → Item) → List Name → Read Item
-call_line f ws = then a_cell ws (λ k us. end_line (f k) us)
+-- a definition of a symbol
+abbrev pub defined : Symbol → ℕ → Bool → Item
+defined s k b = define (record { symbol = s; cell = k; inner = b })
 
 -- a line, by its first word and the words behind it
 abbrev pub item_line : Name → List Name → Read Item
 item_line w ws =
     cond (same w k_inward) (end_line inward ws)
-    (cond (same w k_needs) (needs_line ws)
-    (cond (same w k_def) (def_line ws)
-    (cond (same w k_init) (call_line init ws)
-    (cond (same w k_fini) (call_line fini ws)
+    (cond (same w k_needs) (one_operand (takes a_word) needs ws)
+    (cond (same w k_def) (three_operands a_symbol (takes a_cell) (takes (either k_inner k_all)) defined ws)
+    (cond (same w k_init) (one_operand (takes a_cell) init ws)
+    (cond (same w k_fini) (one_operand (takes a_cell) fini ws)
     (on_ok (cell_line w ws) (λ c. Ok (cell c)))))))

@@ -2,9 +2,8 @@
 use Rattle.std.specs.Prelude.{ℕ}
 use Rattle.base.specs.Names.{Name}
 use Rattle.library.specs.Library as library
-use Rattle.library.specs.declared.types.Octal.{Octal}
-use Rattle.library.specs.declared.types.Octal.TheVariants.{N0, N1, N2, N3, N4, N5, N6, N7}
 use Rattle.library.specs.declared.types.Register.{Register}
+use Rattle.library.specs.declared.types.Register.TheVariants.{R0, R1, R2, R3, R4, R5, R6, R7}
 use Rattle.library.specs.declared.types.CellNo.{CellNo}
 use Rattle.library.specs.declared.types.Instruction.{Instruction}
 use Rattle.library.specs.declared.types.Instruction.TheVariants as code
@@ -13,20 +12,16 @@ use Rattle.library.specs.declared.types.Definition.{Definition}
 use Rattle.library.specs.declared.types.Cell.{Cell}
 use Rattle.library.specs.declared.types.Cell.TheVariants as cells
 
--- a digit of a register
-abbrev pub octal : Octal → ℕ
-octal N0 = 0
-octal N1 = 1
-octal N2 = 2
-octal N3 = 3
-octal N4 = 4
-octal N5 = 5
-octal N6 = 6
-octal N7 = 7
-
 -- a register's number
 abbrev pub reg : Register → ℕ
-reg r = octal r.0
+reg R0 = 0
+reg R1 = 1
+reg R2 = 2
+reg R3 = 3
+reg R4 = 4
+reg R5 = 5
+reg R6 = 6
+reg R7 = 7
 
 -- a cell's number
 abbrev pub cell_no : CellNo → ℕ

@@ -4,7 +4,6 @@
 ghost use Rattle.library.specs.Fine.{ReadsFine};
 
 pub mod faults;
-pub mod registers;
 pub mod types;
 
 // Registers, numbers and cells of the libraries that a text gives are in range.

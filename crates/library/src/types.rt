@@ -1,30 +1,57 @@
-// A number from 0 to 7.
-#[derive(Clone, Copy)]
-pub enum Octal {
-    N0,
-    N1,
-    N2,
-    N3,
-    N4,
-    N5,
-    N6,
-    N7,
-}
+ghost use Rattle.std.specs.Prelude.{◌≡◌, ◌%◌, ◌<◌};
+ghost use Rattle.library.specs.Views.{reg};
 
 // One of the eight registers.
-#[derive(Clone, Copy)]
-pub struct Register(pub Octal);
+// No struct with a ghost field: `Cell<&[u8]>` has registers, and an enum that holds a reference and such a struct gets no proof.
+#[derive(Clone, Copy, PartialEq, Eq, PartialOrd, Ord, Hash, Debug)]
+pub enum Register {
+    R0,
+    R1,
+    R2,
+    R3,
+    R4,
+    R5,
+    R6,
+    R7,
+}
+
+impl Register {
+    const ALL: [Register; 8] = [
+        Register::R0,
+        Register::R1,
+        Register::R2,
+        Register::R3,
+        Register::R4,
+        Register::R5,
+        Register::R6,
+        Register::R7,
+    ];
+
+    // The register of a number, modulo 8.
+    pub fn wrapping(n: u64) -> Register
+        ensures { reg result ≡ n % 8 }
+    {
+        Self::ALL[(n % 8) as usize]
+    }
+
+    pub fn number(self) -> u8
+        ensures value { result ≡ reg self }
+        ensures bound { result < 8 }
+    {
+        self as u8
+    }
+}
 
 // The number of a cell within its library.
-#[derive(Clone, Copy)]
+#[derive(Clone, Copy, PartialEq, Eq, PartialOrd, Ord, Hash, Debug)]
 pub struct CellNo(pub u16);
 
 // The number of a library within its text.
-#[derive(Clone, Copy)]
+#[derive(Clone, Copy, PartialEq, Eq, PartialOrd, Ord, Hash, Debug)]
 pub struct LibraryId(pub usize);
 
 // Instructions with three registers.
-#[derive(Clone, Copy)]
+#[derive(Clone, Copy, PartialEq, Eq, Debug)]
 pub enum Arithmetic {
     Add,
     Sub,
@@ -34,7 +61,7 @@ pub enum Arithmetic {
 }
 
 // Instructions with one register.
-#[derive(Clone, Copy)]
+#[derive(Clone, Copy, PartialEq, Eq, Debug)]
 pub enum Unary {
     Callr,
     Push,
@@ -46,7 +73,7 @@ pub enum Unary {
 }
 
 // An instruction by its keyword alone.
-#[derive(Clone, Copy)]
+#[derive(Clone, Copy, PartialEq, Eq, Debug)]
 pub enum Opcode {
     Set,
     Get,
@@ -64,7 +91,7 @@ pub enum Opcode {
 }
 
 // An instruction with its operands, in the order of the text.
-#[derive(Clone, Copy)]
+#[derive(Clone, Copy, PartialEq, Eq, Debug)]
 pub enum Instruction {
     Set(Register, u32),
     Get(Register, Register, u32),
@@ -93,14 +120,14 @@ pub enum Instruction {
 }
 
 // A name with a version. Names are given by N: bounds in a text, or its bytes.
-#[derive(Clone, Copy)]
+#[derive(Clone, Copy, PartialEq, Eq, Debug)]
 pub struct Symbol<N> {
     pub name: N,
     pub version: N,
 }
 
 // A symbol that a library defines, and where; inner: for that library alone.
-#[derive(Clone, Copy)]
+#[derive(Clone, Copy, PartialEq, Eq, Debug)]
 pub struct Definition<N> {
     pub symbol: Symbol<N>,
     pub cell: CellNo,
@@ -108,7 +135,7 @@ pub struct Definition<N> {
 }
 
 // A cell, as its line says it.
-#[derive(Clone, Copy)]
+#[derive(Clone, Copy, PartialEq, Eq, Debug)]
 pub enum Cell<N> {
     Number(u32),
     // The place so many cells behind a definition; whether it must be there.
@@ -120,7 +147,7 @@ pub enum Cell<N> {
 }
 
 // What a line says of the library that it stands in.
-#[derive(Clone, Copy)]
+#[derive(Clone, Copy, PartialEq, Eq, Debug)]
 pub enum Item<N> {
     Inward,
     Needs(N),

@@ -1,11 +1,16 @@
-use Rattle.std.proofs.Common.{◌≡◌, ℕ, suc, ◌+◌, ◌-◌, ◌<◌, ◌≤◌, Bool, true, List, [], ◌∷◌, length, take, drop, sym, refl, ap, ◌∙◌, arith}
+use Rattle.std.specs.Prelude.{Option}
+use Rattle.std.proofs.Common.{◌≡◌, ℕ, suc, ◌+◌, ◌-◌, ◌<◌, ◌≤◌, ltb, List, [], ◌∷◌, length, take, drop, sym, refl, ap, ◌∙◌, ⊎_elim, arith}
 use Rattle.std.specs.List.{between}
+use Rattle.std.specs.Bool.{then_some}
 use Rattle.std.proofs.lemmas.List.{take-take, drop-take, drop-drop}
 use Rattle.std.proofs.lemmas.List.Edits.{length-between}
-use Rattle.text.specs.Pieces.{run, parts, left}
+use Rattle.std.proofs.lemmas.Bool.{lt-ltb, le-ltb, cases_lt}
+use Rattle.base.specs.Choices.{opt}
 use Rattle.base.specs.Names.{Name}
-use Rattle.text.specs.Words.{full}
-use Rattle.text.proofs.Cuts.{parts_first, parts_last, run_le, full_more}
+use Rattle.text.specs.Words.{cut, full}
+use Rattle.text.specs.Readers.{bytes}
+use Rattle.text.specs.declared.reader.Span.{Span}
+use Rattle.text.proofs.Cuts.{run, run_le, cut_run, full_more}
 
 front : (t : List ℕ) (p q n : ℕ) → n ≤ q - p → take n (between p q t) ≡ between p (p + n) t
 front t p q n h = let e : p + n - p ≡ n = omega arith in rw (e) (take-take n (q - p) (drop p t) h)
@@ -13,29 +18,39 @@ front t p q n h = let e : p + n - p ≡ n = omega arith in rw (e) (take-take n (
 back : (t : List ℕ) (p q n : ℕ) → n ≤ q - p → drop n (between p q t) ≡ between (p + n) q t
 back t p q n h = let e : q - p ≡ n + (q - (p + n)) = omega arith in rw e (drop-take n (q - (p + n)) (drop p t) ∙ ap (take (q - (p + n))) (drop-drop n p t))
 
--- the part that ends at p + n, and what comes behind it
-pub mid_first : (c : ℕ) (t : List ℕ) (p q n : ℕ) (m : Bool) → m ≡ true → p ≤ q → q ≤ length t → n ≡ run c (between p q t) → n < q - p → parts c (between p q t) m ≡ between p (p + n) t ∷ parts c (between (p + n + 1) q t) m
-mid_first c t p q n m e a b r h =
-    let l = length-between t p q b in
-    let g : n < length (between p q t) = omega arith in
-    let f = front t p q n (omega arith) in
-    let k = back t p q (n + 1) (omega arith) in
-    let i : p + (n + 1) ≡ p + n + 1 = omega arith in
-    rw e (parts_first c (between p q t) n r g ∙ rw (f, k, i) refl)
+-- what is left behind the place m at which a part that ends at q was cut
+abbrev pub rest_behind : ℕ → ℕ → Option Span
+rest_behind m q = then_some (ltb m q) (record { start = m + 1; end = q })
 
-pub mid_last : (c : ℕ) (t : List ℕ) (p q n : ℕ) (m : Bool) → m ≡ true → p ≤ q → q ≤ length t → n ≡ run c (between p q t) → q - p ≤ n → parts c (between p q t) m ≡ between p (p + n) t ∷ []
-mid_last c t p q n m e a b r h =
+-- the first piece of a part, and the pieces of what is left behind it
+pub mid_pieces : (c : ℕ) (t : List ℕ) (p q n : ℕ) → p ≤ q → q ≤ length t → n ≡ run c (between p q t) → cut c [] (between p q t) ≡ between p (p + n) t ∷ opt (rest_behind (p + n) q) [] (λ s. cut c [] (bytes t s))
+mid_pieces c t p q n a b r =
     let l = length-between t p q b in
     let u = run_le c (between p q t) in
-    let g : length (between p q t) ≤ n = omega arith in
     let f = front t p q n (omega arith) in
-    rw e (parts_last c (between p q t) n r g ∙ rw f refl)
+    let e = cut_run c [] (between p q t) in
+    ⊎_elim
+    (λ (h : n < q - p).
+    let g = lt-ltb n (length (between p q t)) (omega arith) in
+    let k = lt-ltb (p + n) q (omega arith) in
+    let d = back t p q (suc n) (omega arith) in
+    let i : p + suc n ≡ p + n + 1 = omega arith in
+    let j = sym r in e ∙ rw (j, g, k, f, d, i) refl)
+    (λ (h : q - p ≤ n).
+    let g = le-ltb n (length (between p q t)) (omega arith) in
+    let k = le-ltb (p + n) q (omega arith) in
+    let j = sym r in e ∙ rw (j, g, k, f) refl)
+    (cases_lt n (q - p))
 
-pub mid_falls : (t : List ℕ) (p q n : ℕ) (m : Bool) → m ≡ true → q ≤ length t → n < q - p → left (between (p + n + 1) q t) m + suc (length (between p (p + n) t)) ≤ left (between p q t) m
-mid_falls t p q n m e b h = let i = length-between t (p + n + 1) q b in let j = length-between t p q b in let k = length-between t p (p + n) (omega arith) in rw e (omega arith)
-
-pub mid_ends : (t : List ℕ) (p q n : ℕ) (m : Bool) → m ≡ true → p ≤ q → q ≤ length t → n ≤ length (between p q t) → 0 + suc (length (between p (p + n) t)) ≤ left (between p q t) m
-mid_ends t p q n m e a b h = let j = length-between t p q b in let k = length-between t p (p + n) (omega arith) in rw e (omega arith)
+-- and their sizes
+pub mid_sizes : (t : List ℕ) (p q n : ℕ) → p ≤ q → q ≤ length t → n ≤ length (between p q t) → opt (rest_behind (p + n) q) 0 (λ s. suc (length (bytes t s))) + suc (length (between p (p + n) t)) ≤ suc (length (between p q t))
+mid_sizes t p q n a b h =
+    let l = length-between t p q b in
+    let k = length-between t p (p + n) (omega arith) in
+    ⊎_elim
+    (λ (g : p + n < q). let e = lt-ltb (p + n) q g in let i = length-between t (p + n + 1) q b in rw e (omega arith))
+    (λ (g : q ≤ p + n). let e = le-ltb (p + n) q g in rw e (omega arith))
+    (cases_lt (p + n) q)
 
 pub found_full : {fx ys zs : List Name} (t u : List ℕ) (s e : ℕ) → full ys ≡ fx → t ≡ u → ys ≡ between s e t ∷ zs → s < e → e ≤ length t → fx ≡ between s e u ∷ full zs
 found_full {zs = zs} t u s e f g r h l = let k = length-between t s e l in let o : 0 < length (between s e t) = omega arith in let m = full_more (between s e t) zs o in sym f ∙ ap full r ∙ m ∙ ap (λ v. between s e v ∷ full zs) g

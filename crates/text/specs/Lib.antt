@@ -1,4 +1,3 @@
 -- Lines, words and numbers of a byte text.
 pub mod Words
-pub mod Pieces
 pub mod Readers

@@ -6,16 +6,15 @@ pub fn number(word: &[u8], limit: u64) -> Option<u64>
     ensures value { result ≡ below limit word.now }
     ensures bound { IfSome result (λ n. n < limit) }
 {
-    if word.len() == 0 {
+    if word.is_empty() {
         return None;
     }
     let mut n: u64 = 0;
-    for b in word {
-        let c = *b;
-        if c < b'0' || b'9' < c {
+    for digit in word {
+        if !digit.is_ascii_digit() {
             return None;
         }
-        n = n.saturating_mul(10).saturating_add(u64::from(c - b'0'));
+        n = n.saturating_mul(10).saturating_add(u64::from(digit - b'0'));
     }
-    if n < limit { Some(n) } else { None }
+    (n < limit).then_some(n)
 }

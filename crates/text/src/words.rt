@@ -1,29 +1,22 @@
-ghost use Rattle.std.specs.Prelude.{◌≡◌, ◌≤◌, length};
-ghost use Rattle.std.specs.List.{between};
-ghost use Rattle.base.specs.Names.{same};
-ghost use Rattle.text.specs.Pieces.{run};
+ghost use Rattle.std.specs.Prelude.{◌≡◌, ◌==◌, ◌≤◌, length, position};
+ghost use Rattle.std.specs.List.{between, position_or_len};
 ghost use Rattle.text.specs.Readers.{bytes, Within};
 
 use crate::reader::Span;
 
-// Whether a word is this keyword.
-pub fn is(word: &[u8], keyword: &[u8]) -> bool
-    ensures { result ≡ same word.now keyword.now }
+// The place of the first byte that is `end`.
+fn first(bytes: &[u8], end: u8) -> Option<usize>
+    ensures { result ≡ position (λ b. b == end) bytes.now }
 {
-    word == keyword
+    bytes.iter().position(|b| *b == end)
 }
 
 // How many bytes come before the first that is `end`.
 pub fn run_len(bytes: &[u8], end: u8) -> usize
-    ensures value { result ≡ run end bytes.now }
+    ensures value { result ≡ position_or_len (λ b. b == end) bytes.now }
     ensures bound { result ≤ length bytes.now }
 {
-    for (i, b) in bytes.iter().enumerate() {
-        if *b == end {
-            return i;
-        }
-    }
-    bytes.len()
+    first(bytes, end).unwrap_or(bytes.len())
 }
 
 // The part with what lies outside of the text cut off.

@@ -2,5 +2,5 @@ use Rattle.std.proofs.Common.{◌≡◌, drop}
 use Rattle.text.proofs.Numbers.{capped}
 use Rattle.text.proofs.number.number.Given as goal
 
-abbrev pub invariant-loop-b : goal.invariant-loop-b
-invariant-loop-b l = capped l.n (drop l.b-index l.word) ≡ capped 0 l.word
+abbrev pub invariant-loop-digit : goal.invariant-loop-digit
+invariant-loop-digit l = capped l.n (drop l.digit-index l.word) ≡ capped 0 l.word

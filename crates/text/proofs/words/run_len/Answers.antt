@@ -1,12 +1,9 @@
-use Rattle.std.proofs.Common.{arith}
-use Rattle.text.proofs.Cuts.{run_on, run_found, run_all}
+use Rattle.std.proofs.Common.{◌≡◌, ◌∙◌, rules, ap, length}
+use Rattle.std.specs.Option.{unwrap_or}
+use Rattle.text.proofs.Cuts.{run_position}
 use Rattle.text.proofs.words.run_len.Goals as goal
 
-pub returns-then-b-end : goal.returns-then-b-end
-returns-then-b-end c = record { value = run_found _ _ _ _ c.loop-i.invariant c.loop-i-test.true c.if-b-end.true; bound = omega arith }
-
-pub loop-i-preserved : goal.loop-i-preserved
-loop-i-preserved c = run_on _ _ _ _ c.loop-i.invariant c.loop-i-test.true c.if-b-end.false
-
-pub returns : goal.returns
-returns c = record { value = omega (arith, run_all c.args.end c.args.bytes.now c.loop-i.i _ c.loop-i.invariant c.loop-i-test.false); bound = omega arith }
+pub returns-clause-value : goal.returns-clause-value
+returns-clause-value c =
+    let f : c.unwrap_or.result ≡ unwrap_or c.first.result (length c.args.bytes.now) = search rules in
+    f ∙ ap (λ o. unwrap_or o (length c.args.bytes.now)) c.first.ensures ∙ run_position c.args.end c.args.bytes.now
