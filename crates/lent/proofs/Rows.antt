@@ -38,13 +38,6 @@ rows_past w ws n i h = let l = rows_len w ws n in past (rows_of w ws n) i (omega
     past (x ∷ xs) zero h = absurd (omega arith)
     past (x ∷ xs) (suc i) h = past xs i (omega arith)
 
-pub row_len : (w : ℕ) (ws : List ℕ) (n i : ℕ) → i < n → w * n ≤ length ws → length (row_at w ws i) ≡ w
-row_len w ws n i h l = let e = row_end w i n h in let f : w * i + w ≤ length ws = omega arith in omega (arith, length-between ws (w * i) (w * i + w) f)
-
--- a word of a row
-pub row_word : (w : ℕ) (ws : List ℕ) (i j : ℕ) → j < w → get_or (row_at w ws i) j 0 ≡ get_or ws (w * i + j) 0
-row_word w ws i j h = let m : w * i + w - w * i ≡ w = omega arith in rw m (get_or-take w (drop (w * i) ws) j 0 h ∙ get_or-drop (w * i) ws j 0)
-
 -- after row i was written over, x being its words: k is w
 pub row_same : (w : ℕ) (ws x : List ℕ) (i k : ℕ) → w * i ≤ length ws → length x ≡ w → row_at w (put_mid (w * i) k ws x) i ≡ x
 row_same w ws x i k h l = between-put_mid (w * i) k ws x (w * i + w) h (omega arith)
@@ -56,9 +49,6 @@ row_other w ws x i k j h l e q =
     (λ b. between_is v (w * j) (w * j + w) ∙ ap (drop (w * j)) (take-put_mid_below (w * i) k ws x (w * j + w) (row_end w j i b) h) ∙ sym (between_is ws (w * j) (w * j + w)))
     (λ b. let f = row_end w i j (omega arith) in ap (take (w * j + w - w * j)) (drop-put_mid (w * i) k ws x (w * j) (omega arith) h (omega arith)))
     (cases_lt j i)
-
-pub words_len : (w n k : ℕ) (ws x : List ℕ) → w * n + w ≤ length ws → length x ≡ w → k ≡ w → length (put_mid (w * n) k ws x) ≡ length ws
-words_len w n k ws x h l e = let a = length-take-le (w * n) ws (omega arith) in simp (length-append, length-drop) (omega arith)
 
 pub rows_push : (w : ℕ) (ws x : List ℕ) (n k : ℕ) → w * n ≤ length ws → length x ≡ w → k ≡ w → rows_of w (put_mid (w * n) k ws x) (n + 1) ≡ rows_of w ws n ++ x ∷ []
 unfolding rows_of

@@ -70,9 +70,3 @@ cell_back t (cells.Code o) h = instruction_back t o h
 pub bit_back : (b : Bool) → eqb (bool_byte b) 1 ≡ b
 bit_back true = refl
 bit_back false = refl
-
-pub definition_back : (t : List ℕ) (a b c d n k x : ℕ) (i : Bool) → n ≡ k → k < 65536 → x ≡ bool_byte i → definition_at t (a ∷ b ∷ c ∷ d ∷ n ∷ x ∷ []) ≡ record { symbol = symbol_at t a b c d; cell = k; inner = i }
-definition_back t a b c d n k x i e l f = let g = bit_back i in let m = cel k l in rw (e, f, g, m) refl
-
-pub number_back : (n k : ℕ) → n ≡ k → k < 65536 → number_at (n ∷ []) ≡ k
-number_back n k e l = let m = cel k l in rw (e, m) refl

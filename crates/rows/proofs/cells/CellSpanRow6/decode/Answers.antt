@@ -1,6 +1,6 @@
 use Rattle.std.proofs.Common.{rules}
 use Rattle.rows.specs.Rows.{cell_at}
-use Rattle.rows.proofs.decode.cell.Goals as goal
+use Rattle.rows.proofs.cells.CellSpanRow6.decode.Goals as goal
 
 pub returns-in-Some : goal.returns-in-Some
 unfolding cell_at
