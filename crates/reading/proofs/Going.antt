@@ -15,7 +15,7 @@ use Rattle.lent.specs.Indexes.{Holds}
 use Rattle.lent.proofs.Rows.{rows_none}
 use Rattle.tables.specs.declared.tables.Tables.{Tables}
 use Rattle.reading.specs.declared.parts.Parts.{Parts}
-use Rattle.tables.specs.declared.tables.Draft.{Draft}
+use Rattle.tables.specs.declared.draft.Draft.{Draft}
 use Rattle.tables.specs.Store.{store, library_at, progress, libraries, Inside, Sound, Room, opened, buckets, Named}
 use Rattle.reading.specs.Steps.{Kept, Lined, takes_rows, Blank}
 use Rattle.reading.proofs.Linewise.{room_less}

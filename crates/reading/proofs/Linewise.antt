@@ -20,7 +20,7 @@ use Rattle.lent.specs.Indexes.{bucket_of, Holds}
 use Rattle.lent.specs.declared.index.Index.{Index}
 use Rattle.tables.specs.declared.tables.Tables.{Tables}
 use Rattle.reading.specs.declared.parts.Parts.{Parts}
-use Rattle.tables.specs.declared.tables.Draft.{Draft}
+use Rattle.tables.specs.declared.draft.Draft.{Draft}
 use Rattle.tables.specs.Store.{store, library_from, draft_of, drafts, progress, libraries, Starts, Room, opened, buckets, Named, HasName}
 use Rattle.tables.specs.Steps.{Put, Closed}
 use Rattle.reading.specs.Steps.{Kept, Shut, Finished, Began, Itemed, Lined, takes_rows, mute}

@@ -7,7 +7,7 @@ use Rattle.library.specs.declared.faults.ReadFault.{ReadFault}
 use Rattle.library.specs.declared.faults.ReadFault.TheVariants.{Line, TooFewWords}
 use Rattle.lent.specs.Indexes.{Holds}
 use Rattle.reading.specs.declared.parts.Parts.{Parts}
-use Rattle.tables.specs.declared.tables.Draft.{Draft}
+use Rattle.tables.specs.declared.draft.Draft.{Draft}
 use Rattle.tables.specs.Store.{store, library_from, draft_of, progress, libraries, Sound, Begun, Fits, Wide, Room, opened, Roomy, Named}
 
 -- tables and index between two lines, o being read

@@ -12,7 +12,7 @@ use Rattle.lent.specs.Indexes.{bucket_of, Holds}
 use Rattle.lent.specs.declared.index.Index.{Index}
 use Rattle.rows.specs.Rows.{name_at, number_at, definition_at, cell_at}
 use Rattle.tables.specs.declared.tables.Tables.{Tables}
-use Rattle.tables.specs.declared.tables.Draft.{Draft}
+use Rattle.tables.specs.declared.draft.Draft.{Draft}
 
 -- what the tables hold, each row as what it stands for; the libraries' rows as they are
 pub record Store : Type 0 where
@@ -80,24 +80,6 @@ pub record Starts (s : Store) (o : Draft) : Type 0 where
 abbrev pub Begun : Store → Option Draft → Type 0
 Begun s None = Unit {0}
 Begun s (Some o) = Starts s o
-
--- rows lie within the words of each table
-pub record Fits (t : Tables) : Type 0 where
-  pub libs : 13 * t.libs.len ≤ length t.libs.words.now
-  pub needs : 2 * t.needs.len ≤ length t.needs.words.now
-  pub defs : 6 * t.defs.len ≤ length t.defs.words.now
-  pub inits : 1 * t.inits.len ≤ length t.inits.words.now
-  pub finis : 1 * t.finis.len ≤ length t.finis.words.now
-  pub cells : 6 * t.cells.len ≤ length t.cells.words.now
-
--- each table has words for so many rows
-pub record Wide (t : Tables) : Type 0 where
-  pub libs : 13 * t.rows ≤ length t.libs.words.now
-  pub needs : 2 * t.rows ≤ length t.needs.words.now
-  pub defs : 6 * t.rows ≤ length t.defs.words.now
-  pub inits : t.rows ≤ length t.inits.words.now
-  pub finis : t.rows ≤ length t.finis.words.now
-  pub cells : 6 * t.rows ≤ length t.cells.words.now
 
 -- 1 where a library is being read
 abbrev pub opened : Option Draft → ℕ

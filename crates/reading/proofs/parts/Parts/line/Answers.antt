@@ -1,6 +1,6 @@
 use Rattle.std.proofs.Common.{Option, ◌∙◌, subst}
 use Rattle.text.specs.Readers.{words}
-use Rattle.tables.specs.declared.tables.Draft.{Draft}
+use Rattle.tables.specs.declared.draft.Draft.{Draft}
 use Rattle.tables.specs.Store.{Room, opened}
 use Rattle.reading.specs.Steps.{Kept}
 use Rattle.reading.proofs.Linewise.{words_new, heads, lined_none, lined_mute, lined_lib, bad_lib, bad_outside, bad_item, lined_item, room_one}
