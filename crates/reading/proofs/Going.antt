@@ -54,7 +54,7 @@ going_start p r b l e g s =
     record {
       text = refl;
       same = g;
-      kept = record { fits = record { libs = omega (arith, b.libs); needs = omega (arith, b.needs); defs = omega (arith, b.defs); inits = omega (arith, b.inits); finis = omega (arith, b.finis); cells = omega (arith, b.cells) }; wide = b.wide; sound = sound_none p.tables b.libs; begun = tt; named = named_none p b.libs b.holds; roomy = b.roomy; some = omega arith };
+      kept = record { sound = sound_none p.tables b.libs; begun = tt; named = named_none p b.libs b.holds; some = omega arith };
       room = record { libs = omega (arith, b.libs); needs = omega (arith, b.needs); defs = omega (arith, b.defs); inits = omega (arith, b.inits); finis = omega (arith, b.finis); cells = omega (arith, b.cells) };
       number = omega arith;
       short = omega (arith, b.small);

@@ -95,11 +95,6 @@ pub record Room (t : Tables) (o n : ℕ) : Type 0 where
   pub finis : t.finis.len + n ≤ t.rows
   pub cells : t.cells.len + n ≤ t.rows
 
--- the index has room for as many libraries
-pub record Roomy (t : Tables) (x : Index) : Type 0 where
-  pub next : t.rows ≤ length x.next.now
-  pub heads : t.rows ≤ length x.heads.now
-
 -- the bucket of each library's name, of so many
 abbrev pub buckets : ℕ → List Library → List ℕ
 buckets c ls = map (λ (l : Library). bucket_of l.name c) ls
