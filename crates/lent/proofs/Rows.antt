@@ -1,5 +1,5 @@
 -- Rows of a fixed width: how many there are, one read, one written, one more.
-use Rattle.std.proofs.lemmas.Option.{slice_get-get_or}
+use Rattle.std.proofs.lemmas.Option.{slice_get-get_or, slice_get_past}
 use Rattle.std.specs.Prelude.{None, Some, slice_get, slice_set}
 use borrow.Rule.Slice.PartMut.{put_mid}
 use Rattle.std.proofs.Common.{◌≡◌, ℕ, zero, suc, ◌+◌, ◌-◌, ◌*◌, ◌<◌, ◌≤◌, min, ◌≢◌, List, [], ◌∷◌, ◌++◌, length, get_or, take, drop, set, sym, refl, ap, ◌∙◌, ⊎_elim, mul-le-mul_left, mul-one, mul-add, arith}
@@ -31,12 +31,7 @@ pub rows_slice_get : (w : ℕ) (ws : List ℕ) (n i : ℕ) → i < n → slice_g
 rows_slice_get w ws n i h = let l = rows_len w ws n in slice_get-get_or (rows_of w ws n) i [] (omega arith) ∙ ap Some (rows_get w ws n i h)
 
 pub rows_past : (w : ℕ) (ws : List ℕ) (n i : ℕ) → n ≤ i → slice_get (rows_of w ws n) i ≡ None
-rows_past w ws n i h = let l = rows_len w ws n in past (rows_of w ws n) i (omega arith)
-  where
-    past : {A : Type 0} (xs : List A) (i : ℕ) → length xs ≤ i → slice_get xs i ≡ None
-    past [] i h = refl
-    past (x ∷ xs) zero h = absurd (omega arith)
-    past (x ∷ xs) (suc i) h = past xs i (omega arith)
+rows_past w ws n i h = let l = rows_len w ws n in slice_get_past (rows_of w ws n) i (omega arith)
 
 -- after row i was written over, x being its words: k is w
 pub row_same : (w : ℕ) (ws x : List ℕ) (i k : ℕ) → w * i ≤ length ws → length x ≡ w → row_at w (put_mid (w * i) k ws x) i ≡ x

@@ -22,7 +22,8 @@ use Rattle.lent.specs.declared.refusals.Full.{Full}
 use Rattle.tables.specs.declared.tables.Tables.{Tables}
 use Rattle.reading.specs.declared.parts.Parts.{Parts}
 use Rattle.tables.specs.declared.draft.Draft.{Draft}
-use Rattle.tables.specs.Store.{store, library_from, draft_of, drafts, progress, libraries, Starts, Room, opened, buckets, Named, HasName}
+use Rattle.libraries.specs.Looks.{HasName}
+use Rattle.tables.specs.Store.{store, library_from, draft_of, drafts, progress, libraries, Starts, Room, opened, buckets, Named}
 use Rattle.tables.specs.Steps.{Put, Closed}
 use Rattle.reading.specs.Steps.{Kept, Shut, Finished, Began, Itemed, Lined, takes_rows, mute}
 use Rattle.tables.proofs.Looking.{count_is}

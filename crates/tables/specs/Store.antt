@@ -103,7 +103,3 @@ buckets c ls = map (λ (l : Library). bucket_of l.name c) ls
 pub record Named (t : Tables) (x : Index) : Type 0 where
   pub holds : Holds x (buckets (length x.heads.now) (libraries t)) t.libs.len
   pub within : t.libs.len ≤ length x.heads.now
-
--- library k has the name x
-abbrev pub HasName : List Library → ℕ → Name → Type 0
-HasName ls k x = opt (slice_get ls k) false (λ l. same l.name x) ≡ true

@@ -42,7 +42,8 @@ impl<'t, 'a> Tables<'t, 'a> {
     ghost use Rattle.library.specs.Library.{Library, find_library};
     ghost use Rattle.library.specs.Text.{new_draft, checked, sized};
     ghost use Rattle.lines.specs.Items.{item_of};
-    ghost use Rattle.tables.specs.Store.{store, library_from, draft_of, libraries, Sound, Starts, Room, Named, HasName};
+    ghost use Rattle.libraries.specs.Looks.{HasName};
+    ghost use Rattle.tables.specs.Store.{store, library_from, draft_of, libraries, Sound, Starts, Room, Named};
     ghost use Rattle.tables.specs.Steps.{Put, Closed};
 
     // A library begins.
