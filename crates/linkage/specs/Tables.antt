@@ -1,5 +1,5 @@
 -- What the tables of what is loaded stand for.
-use Rattle.std.specs.Prelude.{false, List, [], ◌∷◌, ℕ, zero, suc, ◌+◌, map, length, ◌==◌, slice_index, slice_index_or, slice_get, Option}
+use Rattle.std.specs.Prelude.{false, List, [], ◌∷◌, ℕ, zero, suc, map, length, ◌==◌, slice_index, slice_index_or, slice_get, Option}
 use Rattle.std.specs.List.{between}
 use Rattle.base.specs.Choices.{opt}
 use Rattle.library.specs.Library.{Library}

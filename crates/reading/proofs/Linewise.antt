@@ -1,7 +1,7 @@
 -- One line after the other: what each does to the tables, and that it is what the text says.
 use Rattle.std.specs.Prelude.{None}
 use Rattle.std.specs.Prelude.{Some, cond, is_some, is_ok, OnOk, IsErr, IsErrAnd, MatchResult}
-use Rattle.std.proofs.Common.{◌≡◌, ℕ, zero, suc, ◌+◌, ◌<◌, ◌≤◌, Bool, true, false, ◌&&◌, ltb, List, [], ◌∷◌, ◌++◌, length, get_or, set, Ok, Err, Option, Result, sym, refl, ap, ◌∙◌, subst, arith}
+use Rattle.std.proofs.Common.{◌≡◌, ℕ, zero, suc, ◌+◌, ◌<◌, ◌≤◌, Bool, true, false, ◌&&◌, ltb, List, [], ◌∷◌, ◌++◌, length, set, Ok, Err, Option, Result, sym, refl, ap, ◌∙◌, subst, arith}
 use Rattle.std.proofs.lemmas.List.{length-map, length-set, map_push}
 use Rattle.std.proofs.lemmas.Bool.{lt-ltb, and_from}
 use Rattle.base.specs.Choices.{opt, on_ok}

@@ -1,5 +1,5 @@
 -- What is written is read back.
-use Rattle.std.proofs.Common.{◌≡◌, ℕ, ◌%◌, ◌<◌, Bool, true, false, eqb, List, [], ◌∷◌, refl, arith}
+use Rattle.std.proofs.Common.{◌≡◌, ℕ, ◌%◌, ◌<◌, Bool, true, false, eqb, List, refl, arith}
 use mir.Val.{bool_byte}
 use Rattle.text.specs.Readers.{bytes}
 use Rattle.text.specs.declared.reader.Span.{Span}
@@ -11,7 +11,7 @@ use Rattle.library.specs.declared.types.Instruction.{Instruction}
 use Rattle.library.specs.declared.types.Instruction.TheVariants as code
 use Rattle.library.specs.declared.types.Cell.{Cell}
 use Rattle.library.specs.declared.types.Cell.TheVariants as cells
-use Rattle.rows.specs.Rows.{cell_at, definition_at, symbol_at, number_at}
+use Rattle.rows.specs.Rows.{cell_at}
 use Rattle.rows.specs.Writes.{instruction_row, cell_row, Small, SmallInstruction}
 
 num : (n : ℕ) → n < 4294967296 → n % 4294967296 ≡ n

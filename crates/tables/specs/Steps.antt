@@ -1,5 +1,5 @@
 -- What the operations on the tables do.
-use Rattle.std.specs.Prelude.{◌≡◌, ℕ, ◌+◌, true, List, [], ◌∷◌, ◌++◌, nat_lt, cond}
+use Rattle.std.specs.Prelude.{◌≡◌, ℕ, ◌+◌, List, [], ◌∷◌, ◌++◌, nat_lt, cond}
 use Rattle.base.specs.Names.{Name}
 use Rattle.library.specs.Library.{Definition, Cell}
 use Rattle.library.specs.Lines.{Item}

@@ -1,9 +1,8 @@
 -- The libraries that tables stand for.
-use Rattle.base.specs.Choices.{opt}
-use Rattle.std.specs.Prelude.{◌≡◌, ℕ, ◌+◌, ◌*◌, ◌≤◌, true, false, List, map, length, drop, Option, ◌==◌, slice_index, slice_index_or, None, Some, slice_get}
+use Rattle.std.specs.Prelude.{ℕ, ◌+◌, ◌≤◌, List, map, length, drop, Option, ◌==◌, slice_index, slice_index_or, None, Some}
 use Rattle.std.specs.Option.{option_map}
 use Rattle.std.specs.List.{between, AllByRecursion}
-use Rattle.base.specs.Names.{Name, same}
+use Rattle.base.specs.Names.{Name}
 use Rattle.text.specs.Readers.{bytes}
 use Rattle.library.specs.Library.{Definition, Cell, Library}
 use Rattle.library.specs.Text as reading

@@ -15,6 +15,7 @@ use text::words::slice;
 const MAX_CELLS: usize = 65535;
 
 // Libraries and their parts, a row for each; room for `rows` rows in each table. The parts of a library stand in a row.
+// Five tables of three types: one generic struct of a library's five parts would not hold them.
 #[derive(Drop)]
 pub struct Tables<'t, 'a> {
     pub text: &'t [u8],
@@ -153,7 +154,7 @@ impl<'t, 'a> Tables<'t, 'a> {
         self.name(i).is_some_and(|bytes| bytes == name)
     }
 
-    // The library of a name.
+    // The library of a name. A loop by hand: an iterator over a bucket ends only by the facts of the whole index.
     pub fn find(&self, names: &Index, name: &[u8]) -> Option<LibraryId>
         requires named { Named self.now names.now }
         ensures { MatchOption result (find_library (libraries self.now) name.now ≡ None) (λ k. HasName (libraries self.now) k.0 name.now) }
