@@ -1,22 +1,125 @@
-ghost use Rattle.std.specs.Prelude.{◌≡◌, ℕ, ◌*◌, ◌<◌, ◌≤◌, length, slice_index};
-ghost use Rattle.lent.specs.Indexes.{newest};
-ghost use Rattle.tables.specs.Store.{libraries, buckets};
+ghost use Rattle.tables.specs.Store.{Named};
 
+use crate::count::count;
+use lent::table::Table;
+use libraries::{Libraries, Sizes};
 use library::faults::ReadFault;
+use library::types::{Cell, CellNo, Definition, LibraryId};
 use reading::parts::Parts;
+use rows::row::Row;
+use rows::views;
+use text::reader::Span;
+use text::words::slice;
 
-// The libraries of a text, and why there are none where it couldn't be read.
+// Words of a library's row that have the bounds of its parts, each with the word behind it.
+const NEEDS: usize = 3;
+
+const DEFINITIONS: usize = 5;
+
+const INITIALIZERS: usize = 7;
+
+const FINALIZERS: usize = 9;
+
+const CELLS: usize = 11;
+
+// The libraries of a text.
 #[derive(Drop)]
 pub struct Catalog<'t, 'a> {
     pub(crate) parts: Parts<'t, 'a>,
-    pub(crate) fault: Option<ReadFault>,
-    ghost libs_fit: { 13 * parts.tables.libs.len ≤ length parts.tables.libs.words.now },
-    ghost needs_fit: { 2 * parts.tables.needs.len ≤ length parts.tables.needs.words.now },
-    ghost defs_fit: { 6 * parts.tables.defs.len ≤ length parts.tables.defs.words.now },
-    ghost inits_fit: { 1 * parts.tables.inits.len ≤ length parts.tables.inits.words.now },
-    ghost finis_fit: { 1 * parts.tables.finis.len ≤ length parts.tables.finis.words.now },
-    ghost cells_fit: { 6 * parts.tables.cells.len ≤ length parts.tables.cells.words.now },
-    ghost within: { parts.tables.libs.len ≤ length parts.names.heads.now },
-    ghost by_bucket: { (h : ℕ) → h < length parts.names.heads.now → slice_index parts.names.heads.now h ≡ newest (buckets (length parts.names.heads.now) (libraries parts.tables)) h parts.tables.libs.len },
-    ghost by_entry: { (k : ℕ) → k < parts.tables.libs.len → slice_index parts.names.next.now k ≡ newest (buckets (length parts.names.heads.now) (libraries parts.tables)) (slice_index (buckets (length parts.names.heads.now) (libraries parts.tables)) k) k },
+    ghost named: { Named parts.tables parts.names },
+}
+
+impl<'t, 'a> Catalog<'t, 'a> {
+    ghost use Rattle.std.specs.Prelude.{◌≡◌, ◌<◌, ℕ, List, length, map, Ok, MatchResult};
+    ghost use Rattle.std.specs.Option.{option_map};
+    ghost use Rattle.library.specs.Text.{read};
+    ghost use Rattle.lent.specs.Tables.{rows_in};
+    ghost use Rattle.tables.specs.Store.{libraries};
+    ghost use Rattle.reading.specs.Steps.{Failed};
+    ghost use Rattle.catalog.specs.Looks.{part_in};
+
+    // Reads a text into lent words.
+    pub fn read(text: &'t [u8], work: &'a mut [u64]) -> Result<Catalog<'t, 'a>, ReadFault>
+        ensures { MatchResult result (λ c. read text.now ≡ Ok (libraries c.parts.tables)) (Failed text.now (length work.old)) }
+    {
+        let parts = Parts::read(text, work)?;
+        Ok(Catalog { parts })
+    }
+
+    // Part j of a library, of those in the table, whose bounds stand in words `at` and `at + 1` of the library's row.
+    fn part<R: Row<W>, const W: usize>(
+        &self,
+        id: LibraryId,
+        at: usize,
+        table: &Table<W>,
+        j: usize,
+    ) -> Option<R>
+        requires { at < 12 }
+        ensures { (t : List ℕ) → option_map (R.part t) result ≡ part_in (rows_in 13 self.now.parts.tables.libs) id.0 at (map (R.at t) (rows_in W table.now)) j }
+    {
+        let row = self.parts.tables.libs.row(id.0)?;
+        let start = row[at] as usize;
+        let end = row[at + 1] as usize;
+        if j >= end.saturating_sub(start) {
+            return None;
+        }
+        Some(R::decode(table.row(start + j)?))
+    }
+}
+
+impl<'t, 'a> Libraries<'t> for Catalog<'t, 'a> {
+    ghost use Rattle.tables.specs.Store.{libraries};
+
+    ghost libs = { λ c. libraries c.parts.tables };
+
+    fn len(&self) -> usize {
+        self.parts.tables.libs.len
+    }
+
+    fn find(&self, name: &[u8]) -> Option<LibraryId> {
+        self.parts.tables.find(&self.parts.names, name)
+    }
+
+    fn name(&self, id: LibraryId) -> Option<&'t [u8]> {
+        self.parts.tables.name(id.0)
+    }
+
+    fn inward(&self, id: LibraryId) -> Option<bool> {
+        let row = self.parts.tables.libs.row(id.0)?;
+        Some(row[2] == 1)
+    }
+
+    fn sizes(&self, id: LibraryId) -> Option<Sizes> {
+        let row = self.parts.tables.libs.row(id.0)?;
+        Some(Sizes {
+            needs: count(row[3], row[4], self.parts.tables.needs.len),
+            definitions: count(row[5], row[6], self.parts.tables.defs.len),
+            initializers: count(row[7], row[8], self.parts.tables.inits.len),
+            finalizers: count(row[9], row[10], self.parts.tables.finis.len),
+            cells: count(row[11], row[12], self.parts.tables.cells.len),
+        })
+    }
+
+    fn need(&self, id: LibraryId, j: usize) -> Option<&'t [u8]> {
+        let name: Span = self.part(id, NEEDS, &self.parts.tables.needs, j)?;
+        Some(slice(self.parts.tables.text, name))
+    }
+
+    fn definition(&self, id: LibraryId, j: usize) -> Option<Definition<&'t [u8]>> {
+        let definition = self.part(id, DEFINITIONS, &self.parts.tables.defs, j)?;
+        Some(views::definition(self.parts.tables.text, definition))
+    }
+
+    fn initializer(&self, id: LibraryId, j: usize) -> Option<CellNo> {
+        self.part(id, INITIALIZERS, &self.parts.tables.inits, j)
+    }
+
+    fn finalizer(&self, id: LibraryId, j: usize) -> Option<CellNo> {
+        self.part(id, FINALIZERS, &self.parts.tables.finis, j)
+    }
+
+    fn cell(&self, id: LibraryId, j: usize) -> Option<Cell<&'t [u8]>> {
+        let cell = self.part(id, CELLS, &self.parts.tables.cells, j)?;
+        Some(views::cell(self.parts.tables.text, cell))
+    }
 }

@@ -2,6 +2,4 @@
 #![tactic(auto)]
 
 pub mod catalog;
-mod looks;
-mod opening;
-pub mod sizes;
+mod count;

@@ -1,12 +1,11 @@
 -- Rows of a fixed width: how many there are, one read, one written, one more.
-use Rattle.std.proofs.lemmas.Option.{slice_get-get_or}
+use Rattle.std.proofs.lemmas.Option.{slice_get-get_or, slice_get_past}
 use Rattle.std.specs.Prelude.{None, Some, slice_get, slice_set}
 use borrow.Rule.Slice.PartMut.{put_mid}
-use Rattle.std.proofs.Common.{◌≡◌, ℕ, zero, suc, ◌+◌, ◌-◌, ◌*◌, ◌<◌, ◌≤◌, min, ◌≢◌, List, [], ◌∷◌, ◌++◌, length, get_or, take, drop, set, sym, refl, ap, ◌∙◌, ⊎_elim, mul-le-mul_left, mul-one, mul-add, arith}
+use Rattle.std.proofs.Common.{◌≡◌, ℕ, ◌+◌, ◌-◌, ◌*◌, ◌<◌, ◌≤◌, min, ◌≢◌, List, [], ◌∷◌, ◌++◌, length, get_or, take, drop, set, sym, refl, ap, ◌∙◌, ⊎_elim, mul-le-mul_left, mul-one, mul-add, arith}
 use Rattle.lent.specs.Tables.{row_at, rows_of}
 use Rattle.std.proofs.lemmas.List.FromFn.{length-map-range_with_len, get_or-map-range_with_len, take-map-range_with_len, map-range_with_len_more, fill_by_all}
-use Rattle.std.proofs.lemmas.List.Edits.{length-between}
-use Rattle.std.proofs.lemmas.List.{length-append, length-take-le, length-drop, length-set, get_or-take, get_or-drop, get_or-set_same, get_or-set_other, set_past, take_all}
+use Rattle.std.proofs.lemmas.List.{length-set, get_or-set_same, get_or-set_other, set_past, take_all}
 use Rattle.std.proofs.lemmas.Slice.{between_is, take-put_mid_below, drop-put_mid, between-put_mid}
 use Rattle.std.proofs.lemmas.Bool.{cases_lt, cases_eq}
 
@@ -31,19 +30,7 @@ pub rows_slice_get : (w : ℕ) (ws : List ℕ) (n i : ℕ) → i < n → slice_g
 rows_slice_get w ws n i h = let l = rows_len w ws n in slice_get-get_or (rows_of w ws n) i [] (omega arith) ∙ ap Some (rows_get w ws n i h)
 
 pub rows_past : (w : ℕ) (ws : List ℕ) (n i : ℕ) → n ≤ i → slice_get (rows_of w ws n) i ≡ None
-rows_past w ws n i h = let l = rows_len w ws n in past (rows_of w ws n) i (omega arith)
-  where
-    past : {A : Type 0} (xs : List A) (i : ℕ) → length xs ≤ i → slice_get xs i ≡ None
-    past [] i h = refl
-    past (x ∷ xs) zero h = absurd (omega arith)
-    past (x ∷ xs) (suc i) h = past xs i (omega arith)
-
-pub row_len : (w : ℕ) (ws : List ℕ) (n i : ℕ) → i < n → w * n ≤ length ws → length (row_at w ws i) ≡ w
-row_len w ws n i h l = let e = row_end w i n h in let f : w * i + w ≤ length ws = omega arith in omega (arith, length-between ws (w * i) (w * i + w) f)
-
--- a word of a row
-pub row_word : (w : ℕ) (ws : List ℕ) (i j : ℕ) → j < w → get_or (row_at w ws i) j 0 ≡ get_or ws (w * i + j) 0
-row_word w ws i j h = let m : w * i + w - w * i ≡ w = omega arith in rw m (get_or-take w (drop (w * i) ws) j 0 h ∙ get_or-drop (w * i) ws j 0)
+rows_past w ws n i h = let l = rows_len w ws n in slice_get_past (rows_of w ws n) i (omega arith)
 
 -- after row i was written over, x being its words: k is w
 pub row_same : (w : ℕ) (ws x : List ℕ) (i k : ℕ) → w * i ≤ length ws → length x ≡ w → row_at w (put_mid (w * i) k ws x) i ≡ x
@@ -56,9 +43,6 @@ row_other w ws x i k j h l e q =
     (λ b. between_is v (w * j) (w * j + w) ∙ ap (drop (w * j)) (take-put_mid_below (w * i) k ws x (w * j + w) (row_end w j i b) h) ∙ sym (between_is ws (w * j) (w * j + w)))
     (λ b. let f = row_end w i j (omega arith) in ap (take (w * j + w - w * j)) (drop-put_mid (w * i) k ws x (w * j) (omega arith) h (omega arith)))
     (cases_lt j i)
-
-pub words_len : (w n k : ℕ) (ws x : List ℕ) → w * n + w ≤ length ws → length x ≡ w → k ≡ w → length (put_mid (w * n) k ws x) ≡ length ws
-words_len w n k ws x h l e = let a = length-take-le (w * n) ws (omega arith) in simp (length-append, length-drop) (omega arith)
 
 pub rows_push : (w : ℕ) (ws x : List ℕ) (n k : ℕ) → w * n ≤ length ws → length x ≡ w → k ≡ w → rows_of w (put_mid (w * n) k ws x) (n + 1) ≡ rows_of w ws n ++ x ∷ []
 unfolding rows_of

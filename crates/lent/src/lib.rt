@@ -3,6 +3,7 @@
 
 pub mod index;
 pub mod queue;
+pub mod refusals;
 pub mod table;
 #[cfg(test)]
 mod tests;

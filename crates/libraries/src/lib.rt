@@ -1,11 +1,11 @@
 // The libraries of a text as all that links them sees them: one by one, by number.
 #![tactic(auto)]
 
-ghost use Rattle.std.specs.Prelude.{◌≡◌, List, length};
+ghost use Rattle.std.specs.Prelude.{◌≡◌, List, length, None, MatchOption};
 ghost use Rattle.std.specs.Option.{option_map};
-ghost use Rattle.library.specs.Library.{Library};
+ghost use Rattle.library.specs.Library.{Library, find_library};
 ghost use Rattle.library.specs.Views.{cell_no, definition_of, cell_of};
-ghost use Rattle.libraries.specs.Looks.{library_no, number_of, part_at, field_at, sizes_of};
+ghost use Rattle.libraries.specs.Looks.{HasName, part_at, field_at, sizes_of};
 
 use library::types::{Cell, CellNo, Definition, LibraryId};
 
@@ -13,7 +13,8 @@ pub mod sizes;
 
 pub use sizes::Sizes;
 
-pub trait Libraries {
+// Names are parts of the text, which lives for 't.
+pub trait Libraries<'t> {
     ghost libs: { Self → List Library };
 
     // How many libraries there are.
@@ -22,10 +23,10 @@ pub trait Libraries {
 
     // The library of a name.
     fn find(&self, name: &[u8]) -> Option<LibraryId>
-        ensures { option_map library_no result ≡ number_of (libs self.now) name.now };
+        ensures { MatchOption result (find_library (libs self.now) name.now ≡ None) (λ k. HasName (libs self.now) k.0 name.now) };
 
     // The name of a library.
-    fn name(&self, id: LibraryId) -> Option<&[u8]>
+    fn name(&self, id: LibraryId) -> Option<&'t [u8]>
         ensures { (option_map (λ x. x.now) result) ≡ field_at (libs self.now) id.0 (λ l. l.name) };
 
     // Whether a library looks in itself first.
@@ -37,11 +38,11 @@ pub trait Libraries {
         ensures { result ≡ field_at (libs self.now) id.0 sizes_of };
 
     // Name j of those that a library needs.
-    fn need(&self, id: LibraryId, j: usize) -> Option<&[u8]>
+    fn need(&self, id: LibraryId, j: usize) -> Option<&'t [u8]>
         ensures { (option_map (λ x. x.now) result) ≡ part_at (libs self.now) id.0 (λ l. l.needs) j };
 
     // Definition j of a library.
-    fn definition(&self, id: LibraryId, j: usize) -> Option<Definition<&[u8]>>
+    fn definition(&self, id: LibraryId, j: usize) -> Option<Definition<&'t [u8]>>
         ensures { option_map (definition_of (λ x. x.now)) result ≡ part_at (libs self.now) id.0 (λ l. l.defs) j };
 
     // The cell of initializer j of a library.
@@ -53,6 +54,6 @@ pub trait Libraries {
         ensures { option_map cell_no result ≡ part_at (libs self.now) id.0 (λ l. l.finis) j };
 
     // Cell j of a library.
-    fn cell(&self, id: LibraryId, j: usize) -> Option<Cell<&[u8]>>
+    fn cell(&self, id: LibraryId, j: usize) -> Option<Cell<&'t [u8]>>
         ensures { option_map (cell_of (λ x. x.now)) result ≡ part_at (libs self.now) id.0 (λ l. l.cells) j };
 }

@@ -1,5 +1,5 @@
 // How many parts a library has.
-#[derive(Clone, Copy)]
+#[derive(Clone, Copy, PartialEq, Eq, Debug)]
 pub struct Sizes {
     pub needs: usize,
     pub definitions: usize,

@@ -1,4 +1,5 @@
 use catalog::catalog::Catalog;
+use libraries::Libraries;
 use library::types::{Definition, LibraryId};
 use std::alloc::{AllocError, Global};
 

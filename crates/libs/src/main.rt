@@ -7,6 +7,7 @@ mod sources;
 
 use catalog::catalog::Catalog;
 use failure::Failure;
+use libraries::Libraries;
 use library::faults::{BadLine, ReadFault};
 use library::types::LibraryId;
 use listing::list;
@@ -81,9 +82,8 @@ fn run(rt: &HostRuntime) -> Result<(), Failure> {
     let sources = gather(rt, &files)?;
     let words = sources.text.len().saturating_mul(16).saturating_add(1024);
     let mut work = vec![in rt.alloc(); 0u64; words]?;
-    let catalog = Catalog::read(&sources.text, &mut work);
-    match catalog.outcome() {
-        Ok(()) => show(rt, &catalog),
+    match Catalog::read(&sources.text, &mut work) {
+        Ok(catalog) => show(rt, &catalog),
         Err(ReadFault::Line(bad)) => Err(blame(&files, &sources.counts, bad)?),
         Err(ReadFault::TooFewWords) => Err(Failure::TooLong),
     }

@@ -1,3 +1,4 @@
 -- What the tables of what is loaded stand for.
+pub mod Rows
 pub mod Tables
 pub mod Views

@@ -1,6 +1,6 @@
 // What is loaded and bound, in lent words: modules and groups looked up by number.
 #![tactic(auto)]
 
-pub mod looks;
+mod rows;
 pub mod tables;
 pub mod types;

@@ -1,44 +1,50 @@
-// Of each module its library, the group that loaded it, and its first word.
-#[derive(Drop)]
-pub struct Modules<'a> {
-    pub library: &'a mut [u64],
-    pub group: &'a mut [u64],
-    pub base: &'a mut [u64],
-}
+ghost use Rattle.std.specs.Prelude.{◌≡◌, slice_index, slice_get};
+ghost use Rattle.std.specs.Option.{option_map};
+ghost use Rattle.lent.specs.Tables.{rows_in};
+ghost use Rattle.linkage.specs.Rows.{group_at};
+ghost use Rattle.linkage.specs.Tables.{module_at};
 
-// Of each group its members' rows, from first to before end, and its state: 1 where it is open, and 2 more where it is global.
-#[derive(Drop)]
-pub struct Groups<'a> {
-    pub first: &'a mut [u64],
-    pub end: &'a mut [u64],
-    pub state: &'a mut [u64],
-}
+use crate::types::{Group, Load, Module};
+use lent::table::Table;
+use rows::row::Row;
 
-// Of each word of memory what the cell there is bound to: one more than the module, 0 for nothing; and the cell of it.
-#[derive(Drop)]
-pub struct Bindings<'a> {
-    pub module: &'a mut [u64],
-    pub cell: &'a mut [u64],
-}
-
-// Members and order are numbers of modules. Loaded has for each library one more than its live module; a word that names a module
-// of another library, or none that counts, says nothing.
+// Modules and groups, a row for each. Of each word of memory, what the cell there is bound to: one more than the module, 0 for nothing;
+// and the cell of it. Members and order are numbers of modules. Loaded has for each library one more than its live module; a word
+// that names a module of another library, or none that there is, says nothing. Used: how many words of memory are taken.
 #[derive(Drop)]
 pub struct Tables<'a> {
-    pub modules: Modules<'a>,
-    pub groups: Groups<'a>,
-    pub bindings: Bindings<'a>,
-    pub members: &'a mut [u64],
-    pub order: &'a mut [u64],
+    pub modules: Table<'a, 3>,
+    pub groups: Table<'a, 3>,
+    pub bindings: Table<'a, 2>,
+    pub members: Table<'a, 1>,
+    pub order: Table<'a, 1>,
     pub loaded: &'a mut [u64],
+    pub used: usize,
 }
 
-// How many rows count, and how many words of memory are taken. Rows beyond are free.
-#[derive(Clone, Copy)]
-pub struct Counts {
-    pub modules: usize,
-    pub groups: usize,
-    pub members: usize,
-    pub order: usize,
-    pub used: usize,
+// Word i, or 0 where there is none.
+pub fn word(words: &[u64], i: usize) -> u64
+    ensures { result ≡ slice_index words.now i }
+{
+    words.get(i).copied().unwrap_or(0)
+}
+
+impl<'a> Tables<'a> {
+    // Module i.
+    pub fn module(&self, i: usize) -> Option<Module>
+        ensures { result ≡ option_map (module_at self.now i) (slice_get (rows_in 3 self.now.modules) i) }
+    {
+        let load = Load::decode(self.modules.row(i)?);
+        Some(Module {
+            load,
+            live: word(self.loaded, load.library.0).checked_sub(1) == Some(i as u64),
+        })
+    }
+
+    // Group i.
+    pub fn group(&self, i: usize) -> Option<Group>
+        ensures { result ≡ option_map group_at (slice_get (rows_in 3 self.now.groups) i) }
+    {
+        Some(Group::decode(self.groups.row(i)?))
+    }
 }

@@ -1,23 +1,29 @@
 use library::types::LibraryId;
 
 // A cell of a module.
-#[derive(Clone, Copy)]
+#[derive(Clone, Copy, PartialEq, Eq, Debug)]
 pub struct Place {
     pub module: usize,
     pub cell: usize,
 }
 
-// A library that was loaded: still there or gone, the group that loaded it, and its first word.
+// A library as it was loaded: the group that loaded it, and its first word.
 #[derive(Clone, Copy)]
-pub struct Module {
+pub struct Load {
     pub library: LibraryId,
-    pub live: bool,
     pub group: usize,
     pub base: usize,
 }
 
-// Libraries that were opened together: the rows of its members, from first to before end.
+// A library that was loaded, still there or gone.
 #[derive(Clone, Copy)]
+pub struct Module {
+    pub load: Load,
+    pub live: bool,
+}
+
+// Libraries that were opened together: the rows of its members, from first to before end.
+#[derive(Clone, Copy, PartialEq, Eq, Debug)]
 pub struct Group {
     pub first: usize,
     pub end: usize,

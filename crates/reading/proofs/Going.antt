@@ -15,7 +15,7 @@ use Rattle.lent.specs.Indexes.{Holds}
 use Rattle.lent.proofs.Rows.{rows_none}
 use Rattle.tables.specs.declared.tables.Tables.{Tables}
 use Rattle.reading.specs.declared.parts.Parts.{Parts}
-use Rattle.tables.specs.declared.tables.Draft.{Draft}
+use Rattle.tables.specs.declared.draft.Draft.{Draft}
 use Rattle.tables.specs.Store.{store, library_at, progress, libraries, Inside, Sound, Room, opened, buckets, Named}
 use Rattle.reading.specs.Steps.{Kept, Lined, takes_rows, Blank}
 use Rattle.reading.proofs.Linewise.{room_less}
@@ -54,7 +54,7 @@ going_start p r b l e g s =
     record {
       text = refl;
       same = g;
-      kept = record { fits = record { libs = omega (arith, b.libs); needs = omega (arith, b.needs); defs = omega (arith, b.defs); inits = omega (arith, b.inits); finis = omega (arith, b.finis); cells = omega (arith, b.cells) }; wide = b.wide; sound = sound_none p.tables b.libs; begun = tt; named = named_none p b.libs b.holds; roomy = b.roomy; some = omega arith };
+      kept = record { sound = sound_none p.tables b.libs; begun = tt; named = named_none p b.libs b.holds; some = omega arith };
       room = record { libs = omega (arith, b.libs); needs = omega (arith, b.needs); defs = omega (arith, b.defs); inits = omega (arith, b.inits); finis = omega (arith, b.finis); cells = omega (arith, b.cells) };
       number = omega arith;
       short = omega (arith, b.small);

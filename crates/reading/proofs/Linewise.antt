@@ -1,7 +1,7 @@
 -- One line after the other: what each does to the tables, and that it is what the text says.
 use Rattle.std.specs.Prelude.{None}
-use Rattle.std.specs.Prelude.{Some, cond, is_some}
-use Rattle.std.proofs.Common.{◌≡◌, ℕ, zero, suc, ◌+◌, ◌<◌, ◌≤◌, Bool, true, false, ◌&&◌, ltb, List, [], ◌∷◌, ◌++◌, length, get_or, set, Ok, Err, Option, Result, sym, refl, ap, ◌∙◌, subst, arith}
+use Rattle.std.specs.Prelude.{Some, cond, is_some, is_ok, OnOk, IsErr, IsErrAnd, MatchResult}
+use Rattle.std.proofs.Common.{◌≡◌, ℕ, zero, suc, ◌+◌, ◌<◌, ◌≤◌, Bool, true, false, ◌&&◌, ltb, List, [], ◌∷◌, ◌++◌, length, set, Ok, Err, Option, Result, sym, refl, ap, ◌∙◌, subst, arith}
 use Rattle.std.proofs.lemmas.List.{length-map, length-set, map_push}
 use Rattle.std.proofs.lemmas.Bool.{lt-ltb, and_from}
 use Rattle.base.specs.Choices.{opt, on_ok}
@@ -18,10 +18,12 @@ use Rattle.library.specs.declared.faults.LineFault.TheVariants.{OutsideLibrary, 
 use Rattle.library.specs.declared.faults.BadLine.{BadLine}
 use Rattle.lent.specs.Indexes.{bucket_of, Holds}
 use Rattle.lent.specs.declared.index.Index.{Index}
+use Rattle.lent.specs.declared.refusals.Full.{Full}
 use Rattle.tables.specs.declared.tables.Tables.{Tables}
 use Rattle.reading.specs.declared.parts.Parts.{Parts}
-use Rattle.tables.specs.declared.tables.Draft.{Draft}
-use Rattle.tables.specs.Store.{store, library_from, draft_of, drafts, progress, libraries, Starts, Room, opened, buckets, Named, HasName}
+use Rattle.tables.specs.declared.draft.Draft.{Draft}
+use Rattle.libraries.specs.Looks.{HasName}
+use Rattle.tables.specs.Store.{store, library_from, draft_of, drafts, progress, libraries, Starts, Room, opened, buckets, Named}
 use Rattle.tables.specs.Steps.{Put, Closed}
 use Rattle.reading.specs.Steps.{Kept, Shut, Finished, Began, Itemed, Lined, takes_rows, mute}
 use Rattle.tables.proofs.Looking.{count_is}
@@ -37,18 +39,26 @@ named_more t u x y d h n c l e p f =
     let Q : ℕ → Type 0 = λ m. Holds y (buckets (length y.heads.now) (libraries u)) m in
     record { holds = subst Q (sym c.count) (subst P (sym b) g); within = omega (arith, c.count) }
 
-pub shut : (p : Parts) (u : Tables) (y : Index) (d : Draft) (x : Name) (h : ℕ) (r : Bool) → Kept p (Some d) → Room p.tables 1 0 → Closed p.tables u d → x ≡ bytes p.tables.text.now d.name → h ≡ bucket_of x (length p.names.heads.now) → (0 < length p.names.heads.now → h < length p.names.heads.now) → r ≡ (ltb h (length p.names.heads.now) && ltb p.tables.libs.len (length p.names.next.now)) → y.heads.now ≡ cond r (set p.names.heads.now h (p.tables.libs.len + 1)) p.names.heads.now → y.next.now ≡ cond r (set p.names.next.now p.tables.libs.len (get_or p.names.heads.now h 0)) p.names.next.now → (r ≡ true → (bs : List ℕ) → length bs ≡ p.tables.libs.len → Holds p.names bs p.tables.libs.len → Holds y (bs ++ h ∷ []) (p.tables.libs.len + 1)) → Shut p (record { tables = u; names = y }) d
+-- an error that is passed on
+pub passed_on : {A E : Type 0} (r : Result A E) (P : A → Type 0) (Q : E → Type 0) (e : E) → IsErr r × IsErrAnd r (λ x. x ≡ e) → Q e → MatchResult r P Q
+passed_on (Ok x) P Q e h q = absurd h.1
+passed_on (Err x) P Q e h q = subst Q (sym h.1) q
+
+on_ok_true : {E X : Type 0} (r : Result (Unit {0}) E) → is_ok r ≡ true → OnOk r X → X
+on_ok_true (Ok x) e h = h
+on_ok_true (Err x) e h = let z : ◌≡◌ {A = ℕ} 0 1 = cc in absurd (omega arith)
+
+pub shut : (p q : Parts) (d : Draft) (x : Name) (h : ℕ) (r : Result (Unit {0}) Full) → Kept p (Some d) → Room p.tables 1 0 → Closed p.tables q.tables d → x ≡ bytes p.tables.text.now d.name → h ≡ bucket_of x (length p.names.heads.now) → (0 < length p.names.heads.now → h < length p.names.heads.now) → is_ok r ≡ (ltb h (length p.names.heads.now) && ltb p.tables.libs.len (length p.names.next.now)) → q.names.heads.now ≡ cond (is_ok r) (set p.names.heads.now h (p.tables.libs.len + 1)) p.names.heads.now → OnOk r ((bs : List ℕ) → length bs ≡ p.tables.libs.len → Holds p.names bs p.tables.libs.len → Holds q.names (bs ++ h ∷ []) (p.tables.libs.len + 1)) → Shut p q d
 unfolding library_from store
-shut p u y d x h r k m c e f g v hs ns grown =
-    let a : h < length p.names.heads.now = g (omega (arith, k.some, k.roomy.heads)) in
-    let b : p.tables.libs.len < length p.names.next.now = omega (arith, m.libs, k.roomy.next) in
-    let t : r ≡ true = v ∙ and_from _ _ (lt-ltb h _ a) (lt-ltb _ _ b) in
+shut p q d x h r k m c e f g v hs grown =
+    let a : h < length p.names.heads.now = g (omega (arith, k.some, p.heads_wide)) in
+    let b : p.tables.libs.len < length p.names.next.now = omega (arith, m.libs, p.next_wide) in
+    let t : is_ok r ≡ true = v ∙ and_from _ _ (lt-ltb h _ a) (lt-ltb _ _ b) in
     let i = ap length (hs ∙ ap (λ z. cond z (set p.names.heads.now h (p.tables.libs.len + 1)) p.names.heads.now) t) ∙ length-set p.names.heads.now h (p.tables.libs.len + 1) in
-    let j = ap length (ns ∙ ap (λ z. cond z (set p.names.next.now p.tables.libs.len (get_or p.names.heads.now h 0)) p.names.next.now) t) ∙ length-set p.names.next.now p.tables.libs.len (get_or p.names.heads.now h 0) in
     record {
       text = c.text;
       rows = c.rows;
-      kept = record { fits = c.fits; wide = c.wide; sound = c.sound; begun = tt; named = named_more p.tables u p.names y d h k.named c (omega (arith, m.libs, k.roomy.heads)) (f ∙ ap (λ z. bucket_of z (length p.names.heads.now)) e) i (grown t); roomy = record { next = omega (arith, j, k.roomy.next, c.rows); heads = omega (arith, i, k.roomy.heads, c.rows) }; some = omega (arith, k.some, c.rows) };
+      kept = record { sound = c.sound; begun = tt; named = named_more p.tables q.tables p.names q.names d h k.named c (omega (arith, m.libs, p.heads_wide)) (f ∙ ap (λ z. bucket_of z (length p.names.heads.now)) e) i (on_ok_true r t grown); some = omega (arith, k.some, c.rows) };
       done = c.done;
       room = c.room;
     }
@@ -74,7 +84,7 @@ pub began : (p q : Parts) (n : ℕ) (o : Option Draft) (d : Draft) (x : Name) (w
 began p q n o d x ws f e g s = record {
   text = f.text;
   rows = f.rows;
-  kept = record { fits = f.kept.fits; wide = f.kept.wide; sound = f.kept.sound; begun = s; named = f.kept.named; roomy = f.kept.roomy; some = f.kept.some };
+  kept = record { sound = f.kept.sound; begun = s; named = f.kept.named; some = f.kept.some };
   line = ap (λ r. on_ok r (λ ls. on_ok (at_line_number n (lib_words ls ws)) (λ y. Ok (record { done = ls; draft = Some (new_draft y) })))) f.done ∙ ap (λ r. on_ok (at_line_number n r) (λ y. Ok (record { done = libraries q.tables; draft = Some (new_draft y) }))) e ∙ ap (λ y. Ok (record { done = libraries q.tables; draft = Some y })) (sym g);
   room = λ m h. let r = f.room (m + 1) h in record { libs = omega arith; needs = omega arith; defs = omega arith; inits = omega arith; finis = omega arith; cells = omega arith };
 }
@@ -86,12 +96,12 @@ named_same t u x e c n =
     let Q : ℕ → Type 0 = λ m. Holds x (buckets (length x.heads.now) (libraries u)) m in
     record { holds = subst Q (sym c) (subst P (sym e) n.holds); within = omega (arith, n.within) }
 
-pub itemed : (p : Parts) (u : Tables) (n : ℕ) (d r : Draft) (w : Name) (ws : List Name) (i j : Item) → Kept p (Some d) → item_line w ws ≡ Ok j → j ≡ i → Put p.tables u n d r i → sized n (draft_of (store u) r) ≡ Ok (draft_of (store u) r) → Itemed p (record { tables = u; names = p.names }) n d r w ws
-itemed p u n d r w ws i j k e f t z = record {
+pub itemed : (p q : Parts) (n : ℕ) (d r : Draft) (w : Name) (ws : List Name) (i j : Item) → Kept p (Some d) → item_line w ws ≡ Ok j → j ≡ i → Put p.tables q.tables n d r i → q.names ≡ p.names → sized n (draft_of (store q.tables) r) ≡ Ok (draft_of (store q.tables) r) → Itemed p q n d r w ws
+itemed p q n d r w ws i j k e f t y z = record {
   text = t.text;
   rows = t.rows;
-  kept = record { fits = t.fits; wide = t.wide; sound = t.sound; begun = t.starts; named = named_same p.tables u p.names t.done t.count k.named; roomy = record { next = omega (arith, k.roomy.next, t.rows); heads = omega (arith, k.roomy.heads, t.rows) }; some = omega (arith, k.some, t.rows) };
-  line = ap (λ v. on_ok (at_line_number n v) (λ i. on_ok (sized n (drafted n (draft_of (store p.tables) d) i)) (λ e. Ok (record { done = libraries p.tables; draft = Some e })))) (e ∙ ap Ok f) ∙ ap (λ v. on_ok v (λ e. Ok (record { done = libraries p.tables; draft = Some e }))) (ap (sized n) (sym t.draft) ∙ z) ∙ ap (λ ls. Ok (record { done = ls; draft = Some (draft_of (store u) r) })) (sym t.done);
+  kept = record { sound = t.sound; begun = t.starts; named = (let P : Index → Type 0 = Named q.tables in subst P (sym y) (named_same p.tables q.tables p.names t.done t.count k.named)); some = omega (arith, k.some, t.rows) };
+  line = ap (λ v. on_ok (at_line_number n v) (λ i. on_ok (sized n (drafted n (draft_of (store p.tables) d) i)) (λ e. Ok (record { done = libraries p.tables; draft = Some e })))) (e ∙ ap Ok f) ∙ ap (λ v. on_ok v (λ e. Ok (record { done = libraries p.tables; draft = Some e }))) (ap (sized n) (sym t.draft) ∙ z) ∙ ap (λ ls. Ok (record { done = ls; draft = Some (draft_of (store q.tables) r) })) (sym t.done);
   room = t.room 1;
 }
 

@@ -1,29 +1,21 @@
 -- What reading a line, and all lines, does to the tables.
 use Rattle.std.specs.Prelude.{None, Some}
-use Rattle.std.specs.Prelude.{◌≡◌, ℕ, ◌+◌, ◌*◌, ◌/◌, ◌<◌, ◌≤◌, Bool, true, List, [], ◌∷◌, ◌++◌, length, Ok, Err, Option, ◌==◌}
+use Rattle.std.specs.Prelude.{◌≡◌, ℕ, ◌+◌, ◌*◌, ◌<◌, Bool, true, List, [], ◌∷◌, ◌++◌, length, Ok, Err, Option, ◌==◌}
 use Rattle.base.specs.Names.{Name}
 use Rattle.library.specs.Text as reading
 use Rattle.library.specs.declared.faults.ReadFault.{ReadFault}
 use Rattle.library.specs.declared.faults.ReadFault.TheVariants.{Line, TooFewWords}
 use Rattle.lent.specs.Indexes.{Holds}
 use Rattle.reading.specs.declared.parts.Parts.{Parts}
-use Rattle.tables.specs.declared.tables.Draft.{Draft}
-use Rattle.tables.specs.Store.{store, library_from, draft_of, progress, libraries, Sound, Begun, Fits, Wide, Room, opened, Roomy, Named}
+use Rattle.tables.specs.declared.draft.Draft.{Draft}
+use Rattle.tables.specs.Store.{store, library_from, draft_of, progress, libraries, Sound, Begun, Room, opened, Named}
 
 -- tables and index between two lines, o being read
 pub record Kept (p : Parts) (o : Option Draft) : Type 0 where
-  pub fits : Fits p.tables
-  pub wide : Wide p.tables
   pub sound : Sound (store p.tables)
   pub begun : Begun (store p.tables) o
   pub named : Named p.tables p.names
-  pub roomy : Roomy p.tables p.names
   pub some : 0 < p.tables.rows
-
--- tables and index that can be looked into
-pub record Ready (p : Parts) : Type 0 where
-  pub fits : Fits p.tables
-  pub named : Named p.tables p.names
 
 -- the draft d became the last library, and is indexed
 pub record Shut (p q : Parts) (d : Draft) : Type 0 where
@@ -77,8 +69,6 @@ pub record Lined (p q : Parts) (n : ℕ) (o r : Option Draft) (ws : List Name) :
 
 -- no rows, and room for some
 pub record Blank (p : Parts) : Type 0 where
-  pub wide : Wide p.tables
-  pub roomy : Roomy p.tables p.names
   pub small : p.tables.rows < 1152921504606846976
   pub libs : p.tables.libs.len ≡ 0
   pub needs : p.tables.needs.len ≡ 0
@@ -90,15 +80,10 @@ pub record Blank (p : Parts) : Type 0 where
 
 -- all lines of the text t were read
 pub record Whole (p : Parts) (t : Name) : Type 0 where
-  pub ready : Ready p
+  pub named : Named p.tables p.names
   pub libraries : reading.read t ≡ Ok (libraries p.tables)
 
 -- why the text t can't be read in n lent words
 abbrev pub Failed : Name → ℕ → ReadFault → Type 0
 Failed t n (Line b) = reading.read t ≡ Err b
 Failed t n TooFewWords = n < 31 + 16 * length t
-
--- why the text t can't be read into so many rows
-abbrev pub Short : Name → ℕ → ReadFault → Type 0
-Short t n (Line b) = reading.read t ≡ Err b
-Short t n TooFewWords = n ≤ length t / 2

@@ -1,6 +1,5 @@
 // A text of libraries, read line by line into tables of lent words.
 #![tactic(auto)]
 
-mod lining;
+mod line;
 pub mod parts;
-mod settling;

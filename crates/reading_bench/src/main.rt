@@ -2,6 +2,7 @@
 #![tactic(auto)]
 
 use catalog::catalog::Catalog;
+use libraries::Libraries;
 use library::types::LibraryId;
 use std::alloc::{AllocError, Global};
 use std::time::Instant;
@@ -34,8 +35,7 @@ fn text_of(heap: Global, size: usize) -> Result<Vec<u8>, AllocError> {
 }
 
 fn read(text: &[u8], work: &mut [u64]) -> Option<Found> {
-    let catalog = Catalog::read(text, work);
-    catalog.outcome().ok()?;
+    let catalog = Catalog::read(text, work).ok()?;
     let mut cells = 0usize;
     for i in 0..catalog.len() {
         cells = cells.saturating_add(catalog.sizes(LibraryId(i))?.cells);
@@ -53,7 +53,7 @@ fn time(rt: &HostRuntime, text: &[u8], work: &mut [u64]) -> io::Result<f64> {
         let start = Instant::now(rt)?;
         let catalog = Catalog::read(text, work);
         let took = start.elapsed(rt)?.as_secs_f64();
-        if catalog.outcome().is_ok() && took < best {
+        if catalog.is_ok() && took < best {
             best = took;
         }
     }

@@ -1,5 +1,6 @@
 use crate::made::name;
 use catalog::catalog::Catalog;
+use libraries::Libraries;
 use library::faults::{LineFault, ReadFault};
 use library::types::{Cell, LibraryId};
 use std::io;
@@ -62,21 +63,18 @@ fn count(catalog: &Catalog) -> Tally {
 // What comes of a text in so many lent words.
 pub fn show_in(rt: &HostRuntime, label: &str, text: &[u8], words: usize) -> io::Result<()> {
     let mut work = vec![in rt.alloc(); 0u64; words]?;
-    let catalog = Catalog::read(text, &mut work);
-    let libraries = catalog.len();
-    match catalog.outcome() {
-        Ok(()) => {
+    match Catalog::read(text, &mut work) {
+        Ok(catalog) => {
+            let libraries = catalog.len();
             let Tally { parts, cells, sum } = count(&catalog);
             println!(rt; "{label}: ok libraries={libraries} parts={parts} cells={cells} sum={sum}")
         }
         Err(ReadFault::Line(bad)) => {
             let line = bad.line;
             let fault = fault_name(bad.fault);
-            println!(rt; "{label}: line {line} {fault}, libraries={libraries}")
+            println!(rt; "{label}: line {line} {fault}, libraries=0")
         }
-        Err(ReadFault::TooFewWords) => println!(rt;
-            "{label}: too few words, libraries={libraries}"
-        ),
+        Err(ReadFault::TooFewWords) => println!(rt; "{label}: too few words, libraries=0"),
     }
 }
 
@@ -93,7 +91,9 @@ pub fn show(rt: &HostRuntime, label: &str, text: &[u8]) -> io::Result<()> {
 // Looks for libraries by name: for each of the first n, and for names that none has.
 pub fn find_all(rt: &HostRuntime, text: &[u8], n: u32) -> io::Result<()> {
     let mut work = vec![in rt.alloc(); 0u64; text.len().saturating_mul(16).saturating_add(1024)]?;
-    let catalog = Catalog::read(text, &mut work);
+    let Ok(catalog) = Catalog::read(text, &mut work) else {
+        return Err(io::Error::from(io::ErrorKind::InvalidData));
+    };
     let mut right = 0u32;
     for i in 0..n {
         if let Some(LibraryId(k)) = catalog.find(name(rt.alloc(), i)?.as_bytes()) {

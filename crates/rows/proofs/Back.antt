@@ -1,5 +1,5 @@
 -- What is written is read back.
-use Rattle.std.proofs.Common.{◌≡◌, ℕ, ◌%◌, ◌<◌, Bool, true, false, eqb, List, [], ◌∷◌, refl, arith}
+use Rattle.std.proofs.Common.{◌≡◌, ℕ, ◌%◌, ◌<◌, Bool, true, false, eqb, List, refl, arith}
 use mir.Val.{bool_byte}
 use Rattle.text.specs.Readers.{bytes}
 use Rattle.text.specs.declared.reader.Span.{Span}
@@ -11,7 +11,7 @@ use Rattle.library.specs.declared.types.Instruction.{Instruction}
 use Rattle.library.specs.declared.types.Instruction.TheVariants as code
 use Rattle.library.specs.declared.types.Cell.{Cell}
 use Rattle.library.specs.declared.types.Cell.TheVariants as cells
-use Rattle.rows.specs.Rows.{cell_at, definition_at, symbol_at, number_at}
+use Rattle.rows.specs.Rows.{cell_at}
 use Rattle.rows.specs.Writes.{instruction_row, cell_row, Small, SmallInstruction}
 
 num : (n : ℕ) → n < 4294967296 → n % 4294967296 ≡ n
@@ -70,9 +70,3 @@ cell_back t (cells.Code o) h = instruction_back t o h
 pub bit_back : (b : Bool) → eqb (bool_byte b) 1 ≡ b
 bit_back true = refl
 bit_back false = refl
-
-pub definition_back : (t : List ℕ) (a b c d n k x : ℕ) (i : Bool) → n ≡ k → k < 65536 → x ≡ bool_byte i → definition_at t (a ∷ b ∷ c ∷ d ∷ n ∷ x ∷ []) ≡ record { symbol = symbol_at t a b c d; cell = k; inner = i }
-definition_back t a b c d n k x i e l f = let g = bit_back i in let m = cel k l in rw (e, f, g, m) refl
-
-pub number_back : (n k : ℕ) → n ≡ k → k < 65536 → number_at (n ∷ []) ≡ k
-number_back n k e l = let m = cel k l in rw (e, m) refl

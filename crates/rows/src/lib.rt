@@ -1,6 +1,7 @@
 // Rows of words that stand for parts of libraries, written and read back.
 #![tactic(auto)]
 
-pub mod decode;
-pub mod encode;
+mod cells;
+mod fields;
+pub mod row;
 pub mod views;

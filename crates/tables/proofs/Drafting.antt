@@ -14,9 +14,9 @@ use Rattle.library.specs.declared.faults.LineFault.TheVariants.{TooManyCells, No
 use Rattle.rows.specs.Rows.{cell_at}
 use Rattle.rows.proofs.Back.{bit_back}
 use Rattle.tables.specs.declared.tables.Tables.{Tables}
-use Rattle.tables.specs.declared.tables.Draft.{Draft}
-use Rattle.tables.specs.Store.{Store, store, library_at, library_from, done, draft_of, Inside, Sound, Starts, Fits, Wide}
-use Rattle.tables.specs.Steps.{Ext, Took, Put, raise, turn}
+use Rattle.tables.specs.declared.draft.Draft.{Draft}
+use Rattle.tables.specs.Store.{Store, store, library_at, library_from, done, draft_of, Inside, Sound, Starts}
+use Rattle.tables.specs.Steps.{Ext, Took, Put, raise}
 use Rattle.tables.proofs.Pushes.{rows_count}
 use Rattle.tables.proofs.Laws.{library_kept, inside_kept, done_kept, sound_kept, done_push, sound_push, starts_on}
 
@@ -45,8 +45,6 @@ took_put t u n o i k h g = record {
   sound = sound_kept _ _ k.ext k.libs h;
   draft = raised_draft (store t) (store u) n o i (k.item o g);
   starts = raised_starts (store u) n (item_reach i) o (starts_on (store t) (store u) o k.ext g);
-  fits = k.fits;
-  wide = k.wide;
   room = k.room;
 }
 
@@ -56,12 +54,19 @@ put_took t u n o r j i m q k h g e f =
     let Q : Item → Type 0 = λ x. Put t u n o r x in
     subst Q (sym q) (subst P (sym (e ∙ ap (raise o n) (f ∙ ap item_reach q))) (took_put t u n o i k h g))
 
+-- a draft of a library that looks in itself first, with a line that reaches nowhere
+abbrev pub turn : Draft → Draft
+turn o = record { name = o.name; inward = true; needs = o.needs; defs = o.defs; inits = o.inits; finis = o.finis; cells = o.cells; top = o.top; line = o.line }
+
 turned_draft : (s : Store) (n : ℕ) (o : Draft) → draft_of s (turn o) ≡ drafted n (draft_of s o) inward
 unfolding library_from
 turned_draft s n o = let e = le-ltb o.top 0 (omega arith) in rw e refl
 
-turned : (t : Tables) (n : ℕ) (o : Draft) → Fits t → Wide t → Sound (store t) → Starts (store t) o → Put t t n o (turn o) inward
-turned t n o f w h g = record {
+unraised : (n : ℕ) (o : Draft) → raise o n 0 ≡ o
+unraised n o = let e = le-ltb o.top 0 (omega arith) in rw e refl
+
+turned : (t : Tables) (n : ℕ) (o : Draft) → Sound (store t) → Starts (store t) o → Put t t n o (turn o) inward
+turned t n o h g = record {
   text = refl;
   rows = refl;
   done = refl;
@@ -69,16 +74,14 @@ turned t n o f w h g = record {
   sound = h;
   draft = turned_draft (store t) n o;
   starts = record { needs = g.needs; defs = g.defs; inits = g.inits; finis = g.finis; cells = g.cells };
-  fits = f;
-  wide = w;
   room = λ k m r. record { libs = omega arith; needs = omega arith; defs = omega arith; inits = omega arith; finis = omega arith; cells = omega arith };
 }
 
-pub put_turned : (t : Tables) (n : ℕ) (o r : Draft) (j : Item) → j ≡ inward → Fits t → Wide t → Sound (store t) → Starts (store t) o → r ≡ turn o → Put t t n o r j
-put_turned t n o r j q f w h g e =
-    let P : Draft → Type 0 = λ x. Put t t n o x inward in
-    let Q : Item → Type 0 = λ x. Put t t n o r x in
-    subst Q (sym q) (subst P (sym e) (turned t n o f w h g))
+pub put_turned : (t : Tables) (n : ℕ) (o r : Draft) (j : Item) (m : ℕ) → j ≡ inward → Sound (store t) → Starts (store t) o → r ≡ raise o n m → m ≡ item_reach j → Put t t n o (turn r) j
+put_turned t n o r j m q h g e f =
+    let P : Draft → Type 0 = λ x. Put t t n o (turn x) inward in
+    let Q : Item → Type 0 = λ x. Put t t n o (turn r) x in
+    subst Q (sym q) (subst P (sym (e ∙ ap (raise o n) (f ∙ ap item_reach q) ∙ unraised n o)) (turned t n o h g))
 
 pub cells_counted : (t : Tables) → length (store t).cells ≡ t.cells.len
 unfolding store

@@ -8,7 +8,7 @@ use Rattle.base.specs.Names.{Name}
 use Rattle.library.specs.Library.{Definition, Cell, Library}
 use Rattle.library.specs.Lines.{needs, define, init, fini, cell}
 use Rattle.library.specs.Text.{apply}
-use Rattle.tables.specs.declared.tables.Draft.{Draft}
+use Rattle.tables.specs.declared.draft.Draft.{Draft}
 use Rattle.tables.specs.Store.{Store, library_at, library_from, Inside, Starts, Sound, done}
 use Rattle.tables.specs.Steps.{Ext}
 

@@ -1,9 +1,8 @@
 -- The libraries that tables stand for.
-use Rattle.base.specs.Choices.{opt}
-use Rattle.std.specs.Prelude.{◌≡◌, ℕ, ◌+◌, ◌*◌, ◌≤◌, true, false, List, map, length, drop, Option, ◌==◌, slice_index, slice_index_or, None, Some, slice_get}
+use Rattle.std.specs.Prelude.{ℕ, ◌+◌, ◌≤◌, List, map, length, drop, Option, ◌==◌, slice_index, slice_index_or, None, Some}
 use Rattle.std.specs.Option.{option_map}
 use Rattle.std.specs.List.{between, AllByRecursion}
-use Rattle.base.specs.Names.{Name, same}
+use Rattle.base.specs.Names.{Name}
 use Rattle.text.specs.Readers.{bytes}
 use Rattle.library.specs.Library.{Definition, Cell, Library}
 use Rattle.library.specs.Text as reading
@@ -12,7 +11,7 @@ use Rattle.lent.specs.Indexes.{bucket_of, Holds}
 use Rattle.lent.specs.declared.index.Index.{Index}
 use Rattle.rows.specs.Rows.{name_at, number_at, definition_at, cell_at}
 use Rattle.tables.specs.declared.tables.Tables.{Tables}
-use Rattle.tables.specs.declared.tables.Draft.{Draft}
+use Rattle.tables.specs.declared.draft.Draft.{Draft}
 
 -- what the tables hold, each row as what it stands for; the libraries' rows as they are
 pub record Store : Type 0 where
@@ -81,24 +80,6 @@ abbrev pub Begun : Store → Option Draft → Type 0
 Begun s None = Unit {0}
 Begun s (Some o) = Starts s o
 
--- rows lie within the words of each table
-pub record Fits (t : Tables) : Type 0 where
-  pub libs : 13 * t.libs.len ≤ length t.libs.words.now
-  pub needs : 2 * t.needs.len ≤ length t.needs.words.now
-  pub defs : 6 * t.defs.len ≤ length t.defs.words.now
-  pub inits : 1 * t.inits.len ≤ length t.inits.words.now
-  pub finis : 1 * t.finis.len ≤ length t.finis.words.now
-  pub cells : 6 * t.cells.len ≤ length t.cells.words.now
-
--- each table has words for so many rows
-pub record Wide (t : Tables) : Type 0 where
-  pub libs : 13 * t.rows ≤ length t.libs.words.now
-  pub needs : 2 * t.rows ≤ length t.needs.words.now
-  pub defs : 6 * t.rows ≤ length t.defs.words.now
-  pub inits : t.rows ≤ length t.inits.words.now
-  pub finis : t.rows ≤ length t.finis.words.now
-  pub cells : 6 * t.rows ≤ length t.cells.words.now
-
 -- 1 where a library is being read
 abbrev pub opened : Option Draft → ℕ
 opened None = 0
@@ -113,11 +94,6 @@ pub record Room (t : Tables) (o n : ℕ) : Type 0 where
   pub finis : t.finis.len + n ≤ t.rows
   pub cells : t.cells.len + n ≤ t.rows
 
--- the index has room for as many libraries
-pub record Roomy (t : Tables) (x : Index) : Type 0 where
-  pub next : t.rows ≤ length x.next.now
-  pub heads : t.rows ≤ length x.heads.now
-
 -- the bucket of each library's name, of so many
 abbrev pub buckets : ℕ → List Library → List ℕ
 buckets c ls = map (λ (l : Library). bucket_of l.name c) ls
@@ -126,7 +102,3 @@ buckets c ls = map (λ (l : Library). bucket_of l.name c) ls
 pub record Named (t : Tables) (x : Index) : Type 0 where
   pub holds : Holds x (buckets (length x.heads.now) (libraries t)) t.libs.len
   pub within : t.libs.len ≤ length x.heads.now
-
--- library k has the name x
-abbrev pub HasName : List Library → ℕ → Name → Type 0
-HasName ls k x = opt (slice_get ls k) false (λ l. same l.name x) ≡ true

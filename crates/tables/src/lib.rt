@@ -1,8 +1,7 @@
 // Libraries and their parts, in tables of lent words.
 #![tactic(auto)]
 
-mod adds;
-mod drafts;
-mod names;
+mod add;
+pub mod draft;
 mod reach;
 pub mod tables;

@@ -2,4 +2,4 @@ use Rattle.reading.proofs.Linewise.{shut}
 use Rattle.reading.proofs.parts.Parts.close.Goals as goal
 
 pub returns : goal.returns
-returns c = shut c.args.self.now c.close.new.self c.insert.new.self c.args.draft c.slice-name.result.now c.bucket-h.result c.insert.result c.requires.kept c.requires.room c.close.ensures c.slice-name.ensures c.bucket-h.ensures.value c.bucket-h.ensures.bound c.insert.ensures.value c.insert.ensures.heads c.insert.ensures.next c.insert.ensures.grown
+returns c = shut c.args.self.now _ c.args.draft c.slice-name.result.now c.bucket-h.result c.insert.result c.requires.kept c.requires.room c.close.ensures c.slice-name.ensures c.bucket-h.ensures.value c.bucket-h.ensures.bound c.insert.ensures.room c.insert.ensures.heads c.insert.ensures.grown

@@ -9,4 +9,4 @@ pub line-requires-in-Some : goal.line-requires-in-Some
 line-requires-in-Some c = record { kept = c.loop-part.invariant.kept; room = going_room c.loop-part.self c.loop-part.held c.loop-part.number c.loop-part.rest c.line.new.self _ c.in-Some.part c.loop-part.invariant c.in-Some.ensures.falls }
 
 pub loop-part-preserved : goal.loop-part-preserved
-loop-part-preserved c = going_on c.loop-part.self c.line-in-Some.new.self c.loop-part.number _ c.loop-part.held c.in-Ok.next c.loop-part.rest c.line.new.self _ c.in-Some.part c.loop-part.invariant c.in-Some.ensures.line c.in-Some.ensures.text c.in-Some.ensures.falls c.in-Ok.ensures refl
+loop-part-preserved c = going_on c.loop-part.self c.line-in-Some.new.self c.loop-part.number _ c.loop-part.held c.in_ok-held.held c.loop-part.rest c.line.new.self _ c.in-Some.part c.loop-part.invariant c.in-Some.ensures.line c.in-Some.ensures.text c.in-Some.ensures.falls c.in_ok-held.ensures refl

@@ -1,3 +1,4 @@
+use Rattle.std.specs.Prelude.{is_ok}
 use Rattle.std.proofs.Common.{◌+◌, ◌*◌, ◌≤◌, [], length, sym, refl, arith}
 use Rattle.std.proofs.lemmas.List.{append-nil}
 use Rattle.rows.specs.Rows.{name_at, number_at, definition_at, cell_at}
@@ -11,8 +12,8 @@ unfolding store
 returns c =
     let t = c.args.self.now in
     let room : 13 * t.libs.len + 13 ≤ length t.libs.words.now = omega arith in
-    let rows = taken c.push.result _ _ _ _ _ c.push.ensures.value room c.push.ensures.rows in
-    let len = taken c.push.result _ _ _ _ _ c.push.ensures.value room c.push.ensures.len in
+    let rows = taken (is_ok c.push.result) _ _ _ _ _ c.push.ensures.room room c.push.ensures.rows in
+    let len = taken (is_ok c.push.result) _ _ _ _ _ c.push.ensures.room room c.push.ensures.len in
     let p = close_law (store t) _ c.args.draft c.from.result t.needs.len t.defs.len t.inits.len t.finis.len t.cells.len
     (record { text = refl; needs = ([], sym (append-nil _)); defs = ([], sym (append-nil _)); inits = ([], sym (append-nil _)); finis = ([], sym (append-nil _)); cells = ([], sym (append-nil _)) })
     rows c.from.ensures
@@ -24,7 +25,5 @@ returns c =
       done = p.0;
       count = len;
       sound = p.1;
-      fits = record { libs = omega arith; needs = omega arith; defs = omega arith; inits = omega arith; finis = omega arith; cells = omega arith };
-      wide = record { libs = omega arith; needs = omega arith; defs = omega arith; inits = omega arith; finis = omega arith; cells = omega arith };
       room = λ n h. record { libs = omega arith; needs = omega arith; defs = omega arith; inits = omega arith; finis = omega arith; cells = omega arith };
     }

@@ -1,5 +1,5 @@
 use Rattle.std.specs.Prelude.{Some}
-use Rattle.std.proofs.Common.{◌<◌, length, sym, refl, ap, arith}
+use Rattle.std.proofs.Common.{◌<◌, length, sym, refl, arith}
 use Rattle.tables.specs.Store.{libraries}
 use Rattle.tables.proofs.Looking.{count_is}
 use Rattle.tables.proofs.Walks.{Passed, walk_start, newest_first, walk_on, walk_falls, walk_end, passed_some, left_some}

@@ -12,4 +12,4 @@ returns-in_err-row c = ap (λ r. (option_map (λ x. x.now) r)) c.from_residual.e
 
 pub returns : goal.returns
 unfolding store library_at
-returns c = ap Some (c.slice.ensures ∙ c.name.ensures c.args.self.now.text.now) ∙ row_is (store c.args.self.now) c.args.i c.in_ok-row.row.now (λ (l : Library). Some l.name) c.in_ok-row.ensures.value
+returns c = ap Some (c.slice.ensures ∙ c.decode.ensures c.args.self.now.text.now) ∙ row_is (store c.args.self.now) c.args.i c.in_ok-row.row.now (λ (l : Library). Some l.name) c.in_ok-row.ensures.value

@@ -1,23 +1,96 @@
-use Rattle.std.proofs.Common.{ap}
+use Rattle.std.proofs.Common.{[], ap, refl, sym, arith}
+use Rattle.std.proofs.lemmas.List.{append-nil}
 use Rattle.text.specs.Readers.{bytes}
 use Rattle.lines.specs.Items.{item_of}
+use Rattle.tables.specs.Store.{store}
+use Rattle.tables.proofs.Laws.{need_law, define_law, init_law, fini_law, cell_law}
 use Rattle.tables.proofs.Drafting.{put_took, put_turned}
 use Rattle.tables.proofs.tables.Tables.put.Goals as goal
 
 pub returns-in-Inward : goal.returns-in-Inward
-returns-in-Inward c = put_turned c.args.self.now c.args.line c.args.draft _ _ (ap (item_of (bytes c.args.self.now.text.now)) c.in-Inward.is) c.requires.fits c.requires.wide c.requires.sound c.requires.starts c.turned.ensures
+returns-in-Inward c = put_turned c.args.self.now c.args.line c.args.draft _ _ _ (ap (item_of (bytes c.args.self.now.text.now)) c.in-Inward.is) c.requires.sound c.requires.starts c.raised-raised.ensures (c.item_reach.ensures c.args.self.now.text.now)
 
 pub returns-in-Needs : goal.returns-in-Needs
-returns-in-Needs c = put_took c.args.self.now _ c.args.line c.args.draft _ _ _ c.item_reach-reach.result (ap (item_of (bytes c.args.self.now.text.now)) c.in-Needs.is) c.add_need.ensures c.requires.sound c.requires.starts c.raised.ensures (c.item_reach-reach.ensures c.args.self.now.text.now)
+unfolding store
+returns-in-Needs c =
+    let t = c.args.self.now in
+    let e = c.add.ensures.parts t.text.now in
+    put_took t _ c.args.line c.args.draft _ _ _ c.item_reach.result (ap (item_of (bytes t.text.now)) c.in-Needs.is)
+    (record {
+      text = refl;
+      rows = refl;
+      ext = record { text = refl; needs = (_, e); defs = ([], sym (append-nil _)); inits = ([], sym (append-nil _)); finis = ([], sym (append-nil _)); cells = ([], sym (append-nil _)) };
+      libs = refl;
+      count = refl;
+      item = need_law _ _ _ refl e refl refl refl refl;
+      room = λ o n h. record { libs = omega arith; needs = omega arith; defs = omega arith; inits = omega arith; finis = omega arith; cells = omega arith };
+    })
+    c.requires.sound c.requires.starts c.raised-raised.ensures (c.item_reach.ensures t.text.now)
 
 pub returns-in-Define : goal.returns-in-Define
-returns-in-Define c = put_took c.args.self.now _ c.args.line c.args.draft _ _ _ c.item_reach-reach.result (ap (item_of (bytes c.args.self.now.text.now)) c.in-Define.is) c.add_definition.ensures c.requires.sound c.requires.starts c.raised-in-Define.ensures (c.item_reach-reach.ensures c.args.self.now.text.now)
+unfolding store
+returns-in-Define c =
+    let t = c.args.self.now in
+    let e = c.add-in-Define.ensures.parts t.text.now in
+    put_took t _ c.args.line c.args.draft _ _ _ c.item_reach.result (ap (item_of (bytes t.text.now)) c.in-Define.is)
+    (record {
+      text = refl;
+      rows = refl;
+      ext = record { text = refl; needs = ([], sym (append-nil _)); defs = (_, e); inits = ([], sym (append-nil _)); finis = ([], sym (append-nil _)); cells = ([], sym (append-nil _)) };
+      libs = refl;
+      count = refl;
+      item = define_law _ _ _ refl refl e refl refl refl;
+      room = λ o n h. record { libs = omega arith; needs = omega arith; defs = omega arith; inits = omega arith; finis = omega arith; cells = omega arith };
+    })
+    c.requires.sound c.requires.starts c.raised-raised.ensures (c.item_reach.ensures t.text.now)
 
 pub returns-in-Init : goal.returns-in-Init
-returns-in-Init c = put_took c.args.self.now _ c.args.line c.args.draft _ _ _ c.item_reach-reach.result (ap (item_of (bytes c.args.self.now.text.now)) c.in-Init.is) c.add_initializer.ensures c.requires.sound c.requires.starts c.raised-in-Init.ensures (c.item_reach-reach.ensures c.args.self.now.text.now)
+unfolding store
+returns-in-Init c =
+    let t = c.args.self.now in
+    let e = c.add-in-Init.ensures.parts t.text.now in
+    put_took t _ c.args.line c.args.draft _ _ _ c.item_reach.result (ap (item_of (bytes t.text.now)) c.in-Init.is)
+    (record {
+      text = refl;
+      rows = refl;
+      ext = record { text = refl; needs = ([], sym (append-nil _)); defs = ([], sym (append-nil _)); inits = (_, e); finis = ([], sym (append-nil _)); cells = ([], sym (append-nil _)) };
+      libs = refl;
+      count = refl;
+      item = init_law _ _ _ refl refl refl e refl refl;
+      room = λ o n h. record { libs = omega arith; needs = omega arith; defs = omega arith; inits = omega arith; finis = omega arith; cells = omega arith };
+    })
+    c.requires.sound c.requires.starts c.raised-raised.ensures (c.item_reach.ensures t.text.now)
 
 pub returns-in-Fini : goal.returns-in-Fini
-returns-in-Fini c = put_took c.args.self.now _ c.args.line c.args.draft _ _ _ c.item_reach-reach.result (ap (item_of (bytes c.args.self.now.text.now)) c.in-Fini.is) c.add_finalizer.ensures c.requires.sound c.requires.starts c.raised-in-Fini.ensures (c.item_reach-reach.ensures c.args.self.now.text.now)
+unfolding store
+returns-in-Fini c =
+    let t = c.args.self.now in
+    let e = c.add-in-Fini.ensures.parts t.text.now in
+    put_took t _ c.args.line c.args.draft _ _ _ c.item_reach.result (ap (item_of (bytes t.text.now)) c.in-Fini.is)
+    (record {
+      text = refl;
+      rows = refl;
+      ext = record { text = refl; needs = ([], sym (append-nil _)); defs = ([], sym (append-nil _)); inits = ([], sym (append-nil _)); finis = (_, e); cells = ([], sym (append-nil _)) };
+      libs = refl;
+      count = refl;
+      item = fini_law _ _ _ refl refl refl refl e refl;
+      room = λ o n h. record { libs = omega arith; needs = omega arith; defs = omega arith; inits = omega arith; finis = omega arith; cells = omega arith };
+    })
+    c.requires.sound c.requires.starts c.raised-raised.ensures (c.item_reach.ensures t.text.now)
 
 pub returns-in-Cell : goal.returns-in-Cell
-returns-in-Cell c = put_took c.args.self.now _ c.args.line c.args.draft _ _ _ c.item_reach-reach.result (ap (item_of (bytes c.args.self.now.text.now)) c.in-Cell.is) c.add_cell.ensures c.requires.sound c.requires.starts c.raised-in-Cell.ensures (c.item_reach-reach.ensures c.args.self.now.text.now)
+unfolding store
+returns-in-Cell c =
+    let t = c.args.self.now in
+    let e = c.add-in-Cell.ensures.parts t.text.now in
+    put_took t _ c.args.line c.args.draft _ _ _ c.item_reach.result (ap (item_of (bytes t.text.now)) c.in-Cell.is)
+    (record {
+      text = refl;
+      rows = refl;
+      ext = record { text = refl; needs = ([], sym (append-nil _)); defs = ([], sym (append-nil _)); inits = ([], sym (append-nil _)); finis = ([], sym (append-nil _)); cells = (_, e) };
+      libs = refl;
+      count = refl;
+      item = cell_law _ _ _ refl refl refl refl refl e;
+      room = λ o n h. record { libs = omega arith; needs = omega arith; defs = omega arith; inits = omega arith; finis = omega arith; cells = omega arith };
+    })
+    c.requires.sound c.requires.starts c.raised-raised.ensures (c.item_reach.ensures t.text.now)

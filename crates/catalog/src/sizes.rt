@@ -1,9 +1,0 @@
-// How many parts a library has.
-#[derive(Clone, Copy)]
-pub struct Sizes {
-    pub needs: usize,
-    pub definitions: usize,
-    pub initializers: usize,
-    pub finalizers: usize,
-    pub cells: usize,
-}

@@ -1,0 +1,2 @@
+-- Lemmas on the tables of what is loaded.
+mod Found
