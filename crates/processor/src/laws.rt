@@ -1,5 +1,5 @@
 // Theorems of the processor.
-ghost use Rattle.processor.specs.Laws.{Decodes, Lies, KeepsSize, ShowsMore};
+ghost use Rattle.processor.specs.Laws.{Decodes, Encodes, Lies, KeepsSize, ShowsMore};
 
 // What was shown stays shown.
 pub fn shows_more() -> u8
@@ -18,6 +18,13 @@ pub fn keeps_size() -> u8
 // A word does what the instruction does that it is decoded to.
 pub fn decodes() -> u8
     ensures { Decodes }
+{
+    0
+}
+
+// An instruction's word is decoded to the instruction that it was made from.
+pub fn encodes() -> u8
+    ensures { Encodes }
 {
     0
 }
