@@ -2,7 +2,7 @@
 use Rattle.std.specs.Prelude.{Some}
 use Rattle.std.proofs.Common.{◌≡◌, ◌/◌, ◌%◌, true, false, refl, ap, ◌∙◌, arith}
 use Rattle.processor.specs.Cpu.{Parts, parts}
-use Rattle.processor.specs.Operations.{pack, fields, kind, encoded, decoded}
+use Rattle.processor.specs.Operations.{pack, fields, kind}
 use Rattle.processor.specs.Laws.{Fits, Encodes}
 use Rattle.processor.specs.declared.words.Operation.{Operation}
 use Rattle.processor.specs.declared.words.Operation.TheVariants.{Set, Load, Store, Own, Add, Sub, Mul, Less, Same, Move, Jump, JumpIfZero, Call, CallRegister, Return, Push, Pop, Out, In, Open, Find, Close, End}

@@ -2,6 +2,7 @@
 ghost use Rattle.processor.specs.Laws.{Decodes, Encodes, Lies, KeepsSize, ShowsMore};
 
 // What was shown stays shown.
+#[tactic(auto, using(crate::proofs::Steps::step_shows))]
 pub fn shows_more() -> u8
     ensures { ShowsMore }
 {
@@ -9,6 +10,7 @@ pub fn shows_more() -> u8
 }
 
 // A step changes no memory's size.
+#[tactic(auto, using(crate::proofs::Steps::step_sized))]
 pub fn keeps_size() -> u8
     ensures { KeepsSize }
 {
@@ -16,6 +18,7 @@ pub fn keeps_size() -> u8
 }
 
 // A word does what the instruction does that it is decoded to.
+#[tactic(auto, using(crate::proofs::Decoding::decodes))]
 pub fn decodes() -> u8
     ensures { Decodes }
 {
@@ -23,6 +26,7 @@ pub fn decodes() -> u8
 }
 
 // An instruction's word is decoded to the instruction that it was made from.
+#[tactic(auto, using(crate::proofs::Encoding::encodes))]
 pub fn encodes() -> u8
     ensures { Encodes }
 {
