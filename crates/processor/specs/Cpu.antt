@@ -1,9 +1,8 @@
 -- A processor with one row of words, which knows nothing of libraries.
 use Rattle.std.specs.Prelude.{ℕ, suc, ◌+◌, ◌-◌, ◌*◌, ◌/◌, ◌%◌, Bool, List, [], ◌∷◌, ◌++◌, drop, replicate, ◌==◌, nat_lt, cond, slice_get, slice_set}
 use Rattle.base.specs.Choices.{opt}
--- what a step comes to is the trait's own
-pub use Rattle.processor.specs.declared.Event.{Event}
-pub use Rattle.processor.specs.declared.Event.TheVariants.{Continue, Home, Stuck, Bind, Open, Find, Close, End}
+use Rattle.processor.specs.declared.Event.{Event}
+use Rattle.processor.specs.declared.Event.TheVariants.{Continue, Home, Stuck, Bind, Open, Find, Close, End}
 
 -- words at addresses from 0, eight registers, the address of the next instruction, addresses to return to and words pushed, newest first, what is left to read, and what was shown, oldest first
 pub record Processor : Type 0 where

@@ -1,6 +1,6 @@
 -- Instructions by kind, their words, and what each does: the same as the definition by numbers.
 use Rattle.std.specs.Prelude.{ℕ, suc, ◌+◌, ◌-◌, ◌*◌, ◌%◌, Some, None, Option, ◌==◌, nat_lt, cond}
-use Rattle.processor.specs.Cpu
+use Rattle.processor.specs.declared.Event.TheVariants as event
 use Rattle.processor.specs.Cpu.{Processor, Did, Parts, parts, did, all, reg, word, sets, there, goes, stores, calls, through, returns, pushes, pops, shows, reads, asks, bit, computes}
 use Rattle.processor.specs.declared.words.Operation.{Operation}
 use Rattle.processor.specs.declared.words.Operation.TheVariants.{Set, Load, Store, Own, Add, Sub, Mul, Less, Same, Move, Jump, JumpIfZero, Call, CallRegister, Return, Push, Pop, Out, In, Open, Find, Close, End}
@@ -91,12 +91,12 @@ acts c (Push r) = reg c r (pushes c)
 acts c (Pop r) = pops c r c.pushed
 acts c (Out r) = reg c r (shows c)
 acts c (In r) = reads c r
-acts c (Open r k global) = word c (there c k) (λ x. asks c (Cpu.Open x r global))
-acts c (Find r a k) = word c (there c k) (λ x. asks c (Cpu.Find r a x))
-acts c (Close r) = asks c (Cpu.Close r)
-acts c (End r) = asks c (Cpu.End r)
+acts c (Open r k global) = word c (there c k) (λ x. asks c (event.Open x r global))
+acts c (Find r a k) = word c (there c k) (λ x. asks c (event.Find r a x))
+acts c (Close r) = asks c (event.Close r)
+acts c (End r) = asks c (event.End r)
 
 -- what a word does, once decoded; stuck where it is no instruction
 abbrev pub act : Processor → Option Operation → Did
-act c None = did c Cpu.Stuck
+act c None = did c event.Stuck
 act c (Some i) = acts c i
