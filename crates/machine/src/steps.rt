@@ -1,10 +1,11 @@
-// The arms of a step. Each that can be stuck gives None where it is, and has changed nothing then.
+// The arms of a step. Each that can be stuck gives None where it is, and has changed nothing then. What they require was tried as a
+// struct's ghost fields beside a &mut to the machine: writes through such a struct get no proof.
 ghost use Rattle.std.specs.Prelude.{◌≡◌, ℕ, ◌<◌, ◌%◌, length, Some, slice_get, unwrap_or};
 ghost use Rattle.processor.specs.Cpu.{sets, goes, there, stores, calls, computes, through, returns, pushes, pops, shows, reads, asks, word, does, parts};
 ghost use Rattle.processor.specs.declared.Event.TheVariants.{Stuck};
 ghost use Rattle.processor.specs.Operations.{acts};
 ghost use Rattle.machine.specs.Seen.{state_of, room_of, made_of};
-ghost use Rattle.machine.specs.Took.{Took};
+ghost use Rattle.machine.specs.Took.{Here, Ready, Took};
 
 use crate::log::Shown;
 use crate::machine::Machine;
@@ -29,7 +30,7 @@ impl<'a> Machine<'a> {
     }
 
     fn set(&mut self, r: u8, x: u64) -> Event
-        requires { self.old.pc < length self.old.words.now }
+        requires { Here self.old }
         ensures took { Took self.old (λ c. sets c r x) self.new result }
         ensures room { room_of self.new ≡ room_of self.old }
     {
@@ -47,7 +48,7 @@ impl<'a> Machine<'a> {
     }
 
     fn enter(&mut self, p: u64) -> Event
-        requires { (self.old.pc < length self.old.words.now) × (0 < room_of self.old) }
+        requires { Ready self.old }
         ensures { Took self.old (λ c. calls c p) self.new result }
     {
         self.backs.push(self.pc + 1);
@@ -63,7 +64,7 @@ impl<'a> Machine<'a> {
     }
 
     fn pop(&mut self, r: u8) -> Option<Event>
-        requires { self.old.pc < length self.old.words.now }
+        requires { Here self.old }
         ensures { Took self.old (λ c. pops c r c.pushed) self.new (unwrap_or result Stuck) }
     {
         let x = self.pushed.pop()?;
@@ -71,7 +72,7 @@ impl<'a> Machine<'a> {
     }
 
     fn push(&mut self, x: u64) -> Event
-        requires { (self.old.pc < length self.old.words.now) × (0 < room_of self.old) }
+        requires { Ready self.old }
         ensures { Took self.old (λ c. pushes c x) self.new result }
     {
         self.pushed.push(x);
@@ -80,7 +81,7 @@ impl<'a> Machine<'a> {
     }
 
     fn show(&mut self, x: u64) -> Event
-        requires { (self.old.pc < length self.old.words.now) × (0 < room_of self.old) }
+        requires { Ready self.old }
         ensures { Took self.old (λ c. shows c x) self.new result }
     {
         self.log.push(Shown::Number(x));
@@ -90,7 +91,7 @@ impl<'a> Machine<'a> {
 
     // Reads the next number.
     fn read(&mut self, r: u8) -> Event
-        requires { (self.old.pc < length self.old.words.now) × (0 < room_of self.old) }
+        requires { Ready self.old }
         ensures { Took self.old (λ c. reads c r) self.new result }
     {
         self.log.push(Shown::Read);
@@ -99,7 +100,7 @@ impl<'a> Machine<'a> {
     }
 
     fn load(&mut self, r: u8, a: u8, k: u32) -> Option<Event>
-        requires { self.old.pc < length self.old.words.now }
+        requires { Here self.old }
         ensures { Took self.old (λ c. acts c (Operation.Load r a k)) self.new (unwrap_or result Stuck) }
     {
         let x = self.regs.read(a)?;
@@ -108,7 +109,7 @@ impl<'a> Machine<'a> {
     }
 
     fn store(&mut self, a: u8, k: u32, r: u8) -> Option<Event>
-        requires { self.old.pc < length self.old.words.now }
+        requires { Here self.old }
         ensures { Took self.old (λ c. acts c (Operation.Store a k r)) self.new (unwrap_or result Stuck) }
     {
         let at = self.regs.read(a)?.wrapping_add(u64::from(k));
@@ -121,7 +122,7 @@ impl<'a> Machine<'a> {
 
     // Calls what the slot at an address holds.
     fn through(&mut self, a: u64) -> Option<Event>
-        requires { (self.old.pc < length self.old.words.now) × (0 < room_of self.old) }
+        requires { Ready self.old }
         ensures { Took self.old (λ c. through c a) self.new (unwrap_or result Stuck) }
     {
         match self.word(a)? {
@@ -132,7 +133,7 @@ impl<'a> Machine<'a> {
 
     // Goes on, and leaves it to others to act.
     fn ask(&mut self, e: Event) -> Event
-        requires { self.old.pc < length self.old.words.now }
+        requires { Here self.old }
         ensures { Took self.old (λ c. asks c e) self.new result }
     {
         self.pc += 1;
@@ -141,7 +142,7 @@ impl<'a> Machine<'a> {
 
     // What f makes of registers a and b into register r.
     fn compute<F: FnOnce(u64, u64) -> u64>(&mut self, r: u8, a: u8, b: u8, f: F) -> Option<Event>
-        requires here { self.old.pc < length self.old.words.now }
+        requires here { Here self.old }
         requires callable { F.IsAlwaysCallable f }
         ensures { (z : ℕ) × ((x y : ℕ) → slice_get self.old.regs.values a ≡ Some x → slice_get self.old.regs.values b ≡ Some y → F.post f x y z) × Took self.old (λ c. computes c r a b (λ x y. z)) self.new (unwrap_or result Stuck) }
     {
@@ -151,7 +152,7 @@ impl<'a> Machine<'a> {
     }
 
     fn branch(&mut self, r: u8, k: u32) -> Option<Event>
-        requires { self.old.pc < length self.old.words.now }
+        requires { Here self.old }
         ensures { Took self.old (λ c. acts c (Operation.JumpIfZero r k)) self.new (unwrap_or result Stuck) }
     {
         let p = match self.regs.read(r)? {
@@ -162,7 +163,7 @@ impl<'a> Machine<'a> {
     }
 
     fn open(&mut self, r: u8, k: u32, global: bool) -> Option<Event>
-        requires { self.old.pc < length self.old.words.now }
+        requires { Here self.old }
         ensures { Took self.old (λ c. acts c (Operation.Open r k global)) self.new (unwrap_or result Stuck) }
     {
         let x = self.word(self.there(k))?;
@@ -170,7 +171,7 @@ impl<'a> Machine<'a> {
     }
 
     fn find(&mut self, r: u8, a: u8, k: u32) -> Option<Event>
-        requires { self.old.pc < length self.old.words.now }
+        requires { Here self.old }
         ensures { Took self.old (λ c. acts c (Operation.Find r a k)) self.new (unwrap_or result Stuck) }
     {
         let x = self.word(self.there(k))?;
@@ -179,7 +180,7 @@ impl<'a> Machine<'a> {
 
     // What the instruction does at which the machine is.
     fn execute(&mut self, i: Operation) -> Option<Event>
-        requires { (self.old.pc < length self.old.words.now) × (0 < room_of self.old) }
+        requires { Ready self.old }
         ensures { Took self.old (λ c. acts c i) self.new (unwrap_or result Stuck) }
     {
         match i {
