@@ -28,7 +28,7 @@ pub struct Site {
 fn distance(to: CellNo, me: CellNo) -> u32
     ensures { result ≡ apart (cell_no to) (cell_no me) }
 {
-    ((to.0 as u64 + 4294967296 - me.0 as u64) % 4294967296) as u32
+    u32::from(to.0).wrapping_sub(u32::from(me.0))
 }
 
 // The processor's operation of an instruction at its own cell. Cells are named by how far they are, so it is the same at any address.

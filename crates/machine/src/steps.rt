@@ -26,7 +26,7 @@ impl<'a> Machine<'a> {
     fn there(&self, k: u32) -> u64
         ensures { result ≡ there (state_of self.now) k }
     {
-        (self.pc % ADDRESSES + u64::from(k)) % ADDRESSES
+        self.pc.wrapping_add(u64::from(k)) % ADDRESSES
     }
 
     fn set(&mut self, r: u8, x: u64) -> Event
