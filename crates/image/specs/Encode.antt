@@ -1,50 +1,50 @@
 -- The word of an instruction at its own cell, and the instruction that such a word is.
 use Rattle.std.specs.Option.{option_map}
-use Rattle.std.specs.Prelude.{◌≡◌, ℕ, ◌+◌, ◌-◌, ◌*◌, ◌%◌, ◌<◌, Some, cond}
+use Rattle.std.specs.Prelude.{◌≡◌, ℕ, ◌+◌, ◌-◌, ◌%◌, ◌<◌, Some}
 use Rattle.library.specs.Library.{Instruction, Set, Get, Sto, Own, Add, Sub, Mul, Less, Same, Move, Jump, If0, Call, Callr, Ret, Push, Pop, Out, In, Open, Find, Close, End}
 use Rattle.library.specs.Fine.{Fine}
 use Rattle.processor.specs.Cpu.{Parts, parts, wide}
-use Rattle.processor.specs.Operations.{decoded}
+use Rattle.processor.specs.Operations.{decoded, encoded, fields as fields_of}
 use Rattle.processor.specs.declared.words.Operation.{Operation}
 use Rattle.processor.specs.declared.words.Operation.TheVariants as operation
-
--- an instruction's number, three registers and 32 bits, put together
-unfoldable pub pack : ℕ → ℕ → ℕ → ℕ → ℕ → ℕ
-pack o r a b k = o + (256 * r + (65536 * a + (16777216 * b + 4294967296 * k)))
 
 -- how far the cell k is behind the instruction's own, modulo 2^32
 unfoldable pub apart : ℕ → ℕ → ℕ
 apart k me = (k + 4294967296 - me) % 4294967296
 
--- the fields of the instruction at the cell me
-abbrev pub fields : Instruction → ℕ → Parts
-fields (Set r n) me = record { o = 1; r = r; a = 0; b = 0; k = n }
-fields (Get r s n) me = record { o = 2; r = r; a = s; b = 0; k = n }
-fields (Sto r n s) me = record { o = 3; r = s; a = r; b = 0; k = n }
-fields (Own r k) me = record { o = 4; r = r; a = 0; b = 0; k = apart k me }
-fields (Add r s t) me = record { o = 5; r = r; a = s; b = t; k = 0 }
-fields (Sub r s t) me = record { o = 6; r = r; a = s; b = t; k = 0 }
-fields (Mul r s t) me = record { o = 7; r = r; a = s; b = t; k = 0 }
-fields (Less r s t) me = record { o = 8; r = r; a = s; b = t; k = 0 }
-fields (Same r s t) me = record { o = 9; r = r; a = s; b = t; k = 0 }
-fields (Move r s) me = record { o = 10; r = r; a = s; b = 0; k = 0 }
-fields (Jump k) me = record { o = 11; r = 0; a = 0; b = 0; k = apart k me }
-fields (If0 r k) me = record { o = 12; r = r; a = 0; b = 0; k = apart k me }
-fields (Call k) me = record { o = 13; r = 0; a = 0; b = 0; k = apart k me }
-fields (Callr r) me = record { o = 14; r = r; a = 0; b = 0; k = 0 }
-fields Ret me = record { o = 15; r = 0; a = 0; b = 0; k = 0 }
-fields (Push r) me = record { o = 16; r = r; a = 0; b = 0; k = 0 }
-fields (Pop r) me = record { o = 17; r = r; a = 0; b = 0; k = 0 }
-fields (Out r) me = record { o = 18; r = r; a = 0; b = 0; k = 0 }
-fields (In r) me = record { o = 19; r = r; a = 0; b = 0; k = 0 }
-fields (Open r k global) me = record { o = 20; r = r; a = cond global 1 0; b = 0; k = apart k me }
-fields (Find r s k) me = record { o = 21; r = r; a = s; b = 0; k = apart k me }
-fields (Close r) me = record { o = 22; r = r; a = 0; b = 0; k = 0 }
-fields (End r) me = record { o = 23; r = r; a = 0; b = 0; k = 0 }
+-- the instruction at the cell me, as an operation of the processor
+abbrev pub operation_at : ℕ → Instruction → Operation
+operation_at me (Set r n) = operation.Set r n
+operation_at me (Get r s n) = operation.Load r s n
+operation_at me (Sto r n s) = operation.Store r n s
+operation_at me (Own r k) = operation.Own r (apart k me)
+operation_at me (Add r s t) = operation.Add r s t
+operation_at me (Sub r s t) = operation.Sub r s t
+operation_at me (Mul r s t) = operation.Mul r s t
+operation_at me (Less r s t) = operation.Less r s t
+operation_at me (Same r s t) = operation.Same r s t
+operation_at me (Move r s) = operation.Move r s
+operation_at me (Jump k) = operation.Jump (apart k me)
+operation_at me (If0 r k) = operation.JumpIfZero r (apart k me)
+operation_at me (Call k) = operation.Call (apart k me)
+operation_at me (Callr r) = operation.CallRegister r
+operation_at me Ret = operation.Return
+operation_at me (Push r) = operation.Push r
+operation_at me (Pop r) = operation.Pop r
+operation_at me (Out r) = operation.Out r
+operation_at me (In r) = operation.In r
+operation_at me (Open r k global) = operation.Open r (apart k me) global
+operation_at me (Find r s k) = operation.Find r s (apart k me)
+operation_at me (Close r) = operation.Close r
+operation_at me (End r) = operation.End r
 
--- the word of the instruction at the cell me
+-- its fields
+abbrev pub fields : Instruction → ℕ → Parts
+fields p me = fields_of (operation_at me p)
+
+-- its word
 abbrev pub encode : Instruction → ℕ → ℕ
-encode p me = pack (fields p me).o (fields p me).r (fields p me).a (fields p me).b (fields p me).k
+encode p me = encoded (operation_at me p)
 
 -- the cell that is so far behind the cell me
 abbrev pub cell_behind : ℕ → ℕ → ℕ
@@ -79,4 +79,4 @@ instruction_at me (operation.End r) = End r
 -- the processor reads from a word the fields that were put into it, and decodes it to the same instruction
 pub record Decodes : Type 0 where
   pub fields_back : (p : Instruction) (me : ℕ) → Fine p → parts (encode p me) ≡ fields p me
-  pub instruction_back : (p : Instruction) (me : ℕ) → Fine p → me < wide → option_map (instruction_at me) ((decoded (encode p me))) ≡ Some p
+  pub instruction_back : (p : Instruction) (me : ℕ) → Fine p → me < wide → option_map (instruction_at me) (decoded (encode p me)) ≡ Some p

@@ -4,10 +4,11 @@
 ghost use Rattle.std.specs.Prelude.{◌≡◌};
 ghost use Rattle.base.specs.Names.{Name};
 ghost use Rattle.library.specs.Views.{cell_no, instruction_of, cell_of};
-ghost use Rattle.image.specs.Encode.{encode, pack, apart, Decodes};
+ghost use Rattle.image.specs.Encode.{encode, operation_at, apart, Decodes};
 ghost use Rattle.image.specs.Words.{first_word};
 
 use library::types::{Cell, CellNo, Instruction};
+use processor::Operation;
 
 // Where a cell lies, and what it is settled to.
 #[derive(Clone, Copy)]
@@ -22,59 +23,50 @@ pub struct Site {
     pub definition: Option<u64>,
 }
 
-// The fields of a word put together.
-fn packed(o: u8, r: u8, a: u8, b: u8, k: u32) -> u64
-    ensures { result ≡ pack o r a b k }
-{
-    o as u64
-        + (256 * (r as u64)
-            + (65536 * (a as u64) + (16777216 * (b as u64) + 4294967296 * (k as u64))))
-}
-
 // How far it is from the cell me to another, modulo 2^32.
+#[tactic(auto, unfolding(crate::specs::Encode::apart))]
 fn distance(to: CellNo, me: CellNo) -> u32
     ensures { result ≡ apart (cell_no to) (cell_no me) }
 {
-    ((to.0 as u64 + 4294967296 - me.0 as u64) % 4294967296) as u32
+    u32::from(to.0).wrapping_sub(u32::from(me.0))
 }
 
-// The word of an instruction at its own cell. Cells are named by how far they are, so it is the same at any address.
+// The processor's operation of an instruction at its own cell. Cells are named by how far they are, so it is the same at any address.
+fn operation_of(instruction: Instruction, me: CellNo) -> Operation
+    ensures { result ≡ operation_at (cell_no me) (instruction_of instruction) }
+{
+    match instruction {
+        Instruction::Set(a, n) => Operation::Set(a.number(), n),
+        Instruction::Get(a, b, n) => Operation::Load(a.number(), b.number(), n),
+        Instruction::Sto(a, n, b) => Operation::Store(a.number(), n, b.number()),
+        Instruction::Own(a, k) => Operation::Own(a.number(), distance(k, me)),
+        Instruction::Add(a, b, c) => Operation::Add(a.number(), b.number(), c.number()),
+        Instruction::Sub(a, b, c) => Operation::Sub(a.number(), b.number(), c.number()),
+        Instruction::Mul(a, b, c) => Operation::Mul(a.number(), b.number(), c.number()),
+        Instruction::Less(a, b, c) => Operation::Less(a.number(), b.number(), c.number()),
+        Instruction::Same(a, b, c) => Operation::Same(a.number(), b.number(), c.number()),
+        Instruction::Move(a, b) => Operation::Move(a.number(), b.number()),
+        Instruction::Jump(k) => Operation::Jump(distance(k, me)),
+        Instruction::If0(a, k) => Operation::JumpIfZero(a.number(), distance(k, me)),
+        Instruction::Call(k) => Operation::Call(distance(k, me)),
+        Instruction::Callr(a) => Operation::CallRegister(a.number()),
+        Instruction::Ret => Operation::Return,
+        Instruction::Push(a) => Operation::Push(a.number()),
+        Instruction::Pop(a) => Operation::Pop(a.number()),
+        Instruction::Out(a) => Operation::Out(a.number()),
+        Instruction::In(a) => Operation::In(a.number()),
+        Instruction::Open(a, k, global) => Operation::Open(a.number(), distance(k, me), global),
+        Instruction::Find(a, b, k) => Operation::Find(a.number(), b.number(), distance(k, me)),
+        Instruction::Close(a) => Operation::Close(a.number()),
+        Instruction::End(a) => Operation::End(a.number()),
+    }
+}
+
+// The word of an instruction at its own cell.
 pub fn word_of(instruction: Instruction, me: CellNo) -> u64
     ensures { result ≡ encode (instruction_of instruction) (cell_no me) }
 {
-    match instruction {
-        Instruction::Set(a, n) => packed(1, a.number(), 0, 0, n),
-        Instruction::Get(a, b, n) => packed(2, a.number(), b.number(), 0, n),
-        Instruction::Sto(a, n, b) => packed(3, b.number(), a.number(), 0, n),
-        Instruction::Own(a, k) => packed(4, a.number(), 0, 0, distance(k, me)),
-        Instruction::Add(a, b, c) => packed(5, a.number(), b.number(), c.number(), 0),
-        Instruction::Sub(a, b, c) => packed(6, a.number(), b.number(), c.number(), 0),
-        Instruction::Mul(a, b, c) => packed(7, a.number(), b.number(), c.number(), 0),
-        Instruction::Less(a, b, c) => packed(8, a.number(), b.number(), c.number(), 0),
-        Instruction::Same(a, b, c) => packed(9, a.number(), b.number(), c.number(), 0),
-        Instruction::Move(a, b) => packed(10, a.number(), b.number(), 0, 0),
-        Instruction::Jump(k) => packed(11, 0, 0, 0, distance(k, me)),
-        Instruction::If0(a, k) => packed(12, a.number(), 0, 0, distance(k, me)),
-        Instruction::Call(k) => packed(13, 0, 0, 0, distance(k, me)),
-        Instruction::Callr(a) => packed(14, a.number(), 0, 0, 0),
-        Instruction::Ret => packed(15, 0, 0, 0, 0),
-        Instruction::Push(a) => packed(16, a.number(), 0, 0, 0),
-        Instruction::Pop(a) => packed(17, a.number(), 0, 0, 0),
-        Instruction::Out(a) => packed(18, a.number(), 0, 0, 0),
-        Instruction::In(a) => packed(19, a.number(), 0, 0, 0),
-        Instruction::Open(a, k, global) => {
-            packed(
-                20,
-                a.number(),
-                if global { 1 } else { 0 },
-                0,
-                distance(k, me),
-            )
-        }
-        Instruction::Find(a, b, k) => packed(21, a.number(), b.number(), 0, distance(k, me)),
-        Instruction::Close(a) => packed(22, a.number(), 0, 0, 0),
-        Instruction::End(a) => packed(23, a.number(), 0, 0, 0),
-    }
+    operation_of(instruction, me).encode()
 }
 
 // The word that a cell begins with.
@@ -95,6 +87,7 @@ pub fn cell_word<N: Drop>(cell: Cell<N>, site: Site) -> u64
 }
 
 // A word is decoded to the instruction that it was made from.
+#[tactic(auto, using(crate::proofs::Decode::decodes))]
 pub fn decodes() -> u8
     ensures { Decodes }
 {

@@ -1,2 +1,1 @@
--- Lemmas on rows of words.
-mod Rows
+-- No lemmas are needed.

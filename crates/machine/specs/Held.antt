@@ -1,18 +1,18 @@
 -- What the parts of a machine hold.
 use Rattle.std.specs.Prelude.{ℕ, ◌-◌, List, map, length, take, drop}
 use Rattle.processor.specs.Cpu.{all}
-use Rattle.machine.specs.declared.parts.Stack.{Stack}
-use Rattle.machine.specs.declared.parts.Log.{Log}
-use Rattle.machine.specs.declared.parts.Shown.{Shown}
-use Rattle.machine.specs.declared.parts.Shown.TheVariants.{Number, Read}
+use Rattle.machine.specs.declared.stack.Stack.{Stack}
+use Rattle.machine.specs.declared.log.Log.{Log}
+use Rattle.machine.specs.declared.log.Shown.{Shown}
+use Rattle.machine.specs.declared.log.Shown.TheVariants.{Number, Read}
 
--- a stack's words, newest first: the last of its row
+-- a stack's words, newest first
 abbrev pub held : Stack → List ℕ
-held s = drop (length s.items.now - s.used) s.items.now
+held s = drop s.free s.items.now
 
 -- how many more words a stack takes
 abbrev pub free : Stack → ℕ
-free s = length s.items.now - s.used
+free s = s.free
 
 -- what was shown, as the processor's definition has it: a word, or 2^64 where one was read
 abbrev pub number : Shown → ℕ

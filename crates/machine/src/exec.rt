@@ -2,7 +2,7 @@
 ghost use Rattle.machine.specs.Seen.{state_of, room_of, made_of};
 
 use crate::machine::Machine;
-use processor::{Cpu, Event, decode};
+use processor::{Cpu, Event};
 
 // As many steps as are counted.
 const MOST_STEPS: u64 = 9223372036854775807;
@@ -31,7 +31,7 @@ impl<'a> Cpu for Machine<'a> {
     }
 
     fn reg(&self, r: u8) -> u64 {
-        self.regs.values[r as usize]
+        self.regs.values[usize::from(r)]
     }
 
     fn set_reg(&mut self, r: u8, x: u64) {
@@ -44,21 +44,14 @@ impl<'a> Cpu for Machine<'a> {
     }
 
     fn go(&mut self, p: u64) {
-        self.jump(p);
+        self.pc = p;
     }
 
     fn step(&mut self) -> Event {
         self.made = self.made.saturating_add(1).min(MOST_STEPS);
-        let pc = self.at();
-        if pc == 0 {
+        if self.pc == 0 {
             return Event::Home;
         }
-        let Some(w) = self.word(pc) else {
-            return Event::Stuck;
-        };
-        match decode(w) {
-            Some(i) => self.execute(i),
-            None => Event::Stuck,
-        }
+        self.advance().unwrap_or(Event::Stuck)
     }
 }

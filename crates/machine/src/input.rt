@@ -2,7 +2,11 @@
 ghost use Rattle.std.specs.Prelude.{◌≡◌, drop};
 ghost use Rattle.processor.specs.Cpu.{first_in};
 
-use crate::parts::Input;
+// The numbers that are left to read.
+#[derive(Drop)]
+pub struct Input<'a> {
+    rest: &'a [u64],
+}
 
 impl<'a> Input<'a> {
     pub fn new(rest: &'a [u64]) -> Input<'a>
@@ -16,11 +20,10 @@ impl<'a> Input<'a> {
         ensures first { result ≡ first_in self.old.rest.now }
         ensures rest { self.new.rest.now ≡ drop 1 self.old.rest.now }
     {
-        if self.rest.len() == 0 {
+        let [x, rest @ ..] = self.rest else {
             return 0;
-        }
-        let x = self.rest[0];
-        self.rest = &self.rest[1..];
-        x
+        };
+        self.rest = rest;
+        *x
     }
 }

@@ -1,10 +1,25 @@
 // What was shown.
-ghost use Rattle.std.specs.Prelude.{◌≡◌, ◌+◌, ◌<◌, [], ◌∷◌, ◌++◌, map, length};
-ghost use Rattle.machine.specs.Held.{logged, number, unused};
+ghost use Rattle.std.specs.Prelude.{◌≤◌, length};
 
-use crate::parts::{Log, Shown};
+// A number, or that one was read.
+#[derive(Clone, Copy, PartialEq, Eq, Debug)]
+pub enum Shown {
+    Number(u64),
+    Read,
+}
+
+// What was shown so far, oldest first: the first `len` of the lent items. They are lent, there is no heap here.
+#[derive(Drop)]
+pub struct Log<'a> {
+    items: &'a mut [Shown],
+    len: usize,
+    ghost within: { len ≤ length items.now },
+}
 
 impl<'a> Log<'a> {
+    ghost use Rattle.std.specs.Prelude.{◌≡◌, ◌+◌, ◌<◌, [], ◌∷◌, ◌++◌, map};
+    ghost use Rattle.machine.specs.Held.{logged, number, unused};
+
     pub fn new(items: &'a mut [Shown]) -> Log<'a>
         ensures empty { logged result ≡ [] }
         ensures unused { unused result ≡ length items.old }
@@ -24,14 +39,13 @@ impl<'a> Log<'a> {
     pub fn room_left(&self) -> usize
         ensures { result ≡ unused self.now }
     {
-        self.items.len().saturating_sub(self.len)
+        self.items.len() - self.len
     }
 
     // All that was shown.
     pub fn all(&self) -> &[Shown]
         ensures { map number result.now ≡ logged self.now }
     {
-        let len = self.len.min(self.items.len());
-        &self.items[0..len]
+        &self.items[..self.len]
     }
 }

@@ -1,15 +1,24 @@
 // A stack in lent words.
-ghost use Rattle.std.specs.Prelude.{◌≡◌, ◌+◌, ◌<◌, ◌≤◌, [], ◌∷◌, length, Some, None};
-ghost use Rattle.machine.specs.Held.{held, free};
+ghost use Rattle.std.specs.Prelude.{◌≤◌, length};
 
-use crate::parts::Stack;
+// It grows down from their end: what it holds, newest first, are the words from `free` on. Words are lent, there is no heap here.
+#[derive(Drop)]
+pub struct Stack<'a> {
+    items: &'a mut [u64],
+    free: usize,
+    ghost within: { free ≤ length items.now },
+}
 
 impl<'a> Stack<'a> {
+    ghost use Rattle.std.specs.Prelude.{◌≡◌, ◌+◌, ◌<◌, [], ◌∷◌, MatchOption};
+    ghost use Rattle.machine.specs.Held.{held, free};
+
     pub fn new(items: &'a mut [u64]) -> Stack<'a>
         ensures held { held result ≡ [] }
         ensures free { free result ≡ length items.old }
     {
-        Stack { items, used: 0 }
+        let free = items.len();
+        Stack { items, free }
     }
 
     pub fn push(&mut self, x: u64)
@@ -17,28 +26,28 @@ impl<'a> Stack<'a> {
         ensures held { held self.new ≡ x ∷ held self.old }
         ensures free { free self.new + 1 ≡ free self.old }
     {
-        let at = self.items.len() - self.used - 1;
-        self.items[at] = x;
-        self.used += 1;
+        self.free -= 1;
+        self.items[self.free] = x;
     }
 
     // The newest word, taken off; nothing changes where there is none.
+    #[tactic(auto, using(std::proofs::lemmas::List::drop_more))]
     pub fn pop(&mut self) -> Option<u64>
-        ensures held { elim result [ None ↦ (held self.old ≡ []) × (self.new ≡ self.old) | Some x ↦ held self.old ≡ x ∷ held self.new ] }
+        ensures held { MatchOption result ((held self.old ≡ []) × (held self.new ≡ [])) (λ x. held self.old ≡ x ∷ held self.new) }
         ensures free { free self.old ≤ free self.new }
     {
-        let len = self.items.len();
-        let used = self.used.min(len);
-        if used == 0 {
+        // get leaves open here what the words are behind the &mut
+        if self.free == self.items.len() {
             return None;
         }
-        self.used = used - 1;
-        Some(self.items[len - used])
+        let x = self.items[self.free];
+        self.free += 1;
+        Some(x)
     }
 
     pub fn room_left(&self) -> usize
         ensures { result ≡ free self.now }
     {
-        self.items.len().saturating_sub(self.used)
+        self.free
     }
 }

@@ -1,42 +1,37 @@
-// The arms of a step.
-ghost use Rattle.std.specs.Prelude.{◌≡◌, ◌<◌, length, MatchOption, None, Some, slice_get};
-ghost use Rattle.processor.specs.Cpu.{Continue, sets, goes, there, stores, calls, computes, through, returns, pushes, pops, shows, reads, asks, word};
+// The arms of a step. Each that can be stuck gives None where it is, and has changed nothing then. What they require was tried as a
+// struct's ghost fields beside a &mut to the machine: writes through such a struct get no proof.
+ghost use Rattle.std.specs.Prelude.{◌≡◌, ℕ, ◌<◌, ◌%◌, length, Some, slice_get, unwrap_or};
+ghost use Rattle.processor.specs.Cpu.{sets, goes, there, stores, calls, computes, through, returns, pushes, pops, shows, reads, asks, word, does, parts};
+ghost use Rattle.processor.specs.declared.Event.TheVariants.{Stuck};
 ghost use Rattle.processor.specs.Operations.{acts};
-ghost use Rattle.machine.specs.Arithmetic.{outcome_of};
 ghost use Rattle.machine.specs.Seen.{state_of, room_of, made_of};
-ghost use Rattle.machine.specs.Took.{Took};
+ghost use Rattle.machine.specs.Took.{Here, Ready, Took};
 
-use crate::arithmetic::Computation;
+use crate::log::Shown;
 use crate::machine::Machine;
-use crate::parts::Shown;
-use processor::{Event, Operation};
+use processor::{Cpu, Event, Operation, decode};
 
 // Places are counted modulo this many.
 const ADDRESSES: u64 = 4294967296;
 
 impl<'a> Machine<'a> {
     // The word at an address, if there is one.
-    pub(crate) fn word(&self, a: u64) -> Option<u64>
-        ensures { MatchOption result (slice_get self.now.words.now a ≡ None) (λ x. (slice_get self.now.words.now a ≡ Some x) × (a < length self.now.words.now)) }
+    fn word(&self, a: u64) -> Option<u64>
+        ensures { result ≡ slice_get self.now.words.now a }
     {
-        let i = a as usize;
-        if i < self.words.len() {
-            Some(self.words[i])
-        } else {
-            None
-        }
+        self.words.get(a as usize).copied()
     }
 
     // The address k behind the instruction's own.
     fn there(&self, k: u32) -> u64
         ensures { result ≡ there (state_of self.now) k }
     {
-        (self.pc % ADDRESSES + k as u64) % ADDRESSES
+        self.pc.wrapping_add(u64::from(k)) % ADDRESSES
     }
 
     fn set(&mut self, r: u8, x: u64) -> Event
-        requires { self.old.pc < length self.old.words.now }
-        ensures took { Took self.old (sets (state_of self.old) r x) self.new result }
+        requires { Here self.old }
+        ensures took { Took self.old (λ c. sets c r x) self.new result }
         ensures room { room_of self.new ≡ room_of self.old }
     {
         self.regs.write(r, x);
@@ -45,45 +40,40 @@ impl<'a> Machine<'a> {
     }
 
     // Goes on at p.
-    pub(crate) fn jump(&mut self, p: u64) -> Event
-        ensures took { Took self.old (goes (state_of self.old) p) self.new result }
-        ensures room { room_of self.new ≡ room_of self.old }
+    fn jump(&mut self, p: u64) -> Event
+        ensures { Took self.old (λ c. goes c p) self.new result }
     {
         self.pc = p;
         Event::Continue
     }
 
     fn enter(&mut self, p: u64) -> Event
-        requires { (self.old.pc < length self.old.words.now) × (0 < room_of self.old) }
-        ensures { Took self.old (calls (state_of self.old) p) self.new result }
+        requires { Ready self.old }
+        ensures { Took self.old (λ c. calls c p) self.new result }
     {
         self.backs.push(self.pc + 1);
         self.pc = p;
         Event::Continue
     }
 
-    fn leave(&mut self) -> Event
-        ensures { Took self.old (returns (state_of self.old) (state_of self.old).backs) self.new result }
+    fn leave(&mut self) -> Option<Event>
+        ensures { Took self.old (λ c. returns c c.backs) self.new (unwrap_or result Stuck) }
     {
-        match self.backs.pop() {
-            Some(p) => self.jump(p),
-            None => Event::Stuck,
-        }
+        let p = self.backs.pop()?;
+        Some(self.jump(p))
     }
 
-    fn pop(&mut self, r: u8) -> Event
-        requires { self.old.pc < length self.old.words.now }
-        ensures { Took self.old (pops (state_of self.old) r (state_of self.old).pushed) self.new result }
+    fn pop(&mut self, r: u8) -> Option<Event>
+        requires { Here self.old }
+        ensures { Took self.old (λ c. pops c r c.pushed) self.new (unwrap_or result Stuck) }
     {
-        match self.pushed.pop() {
-            Some(x) => self.set(r, x),
-            None => Event::Stuck,
-        }
+        let x = self.pushed.pop()?;
+        Some(self.set(r, x))
     }
 
     fn push(&mut self, x: u64) -> Event
-        requires { (self.old.pc < length self.old.words.now) × (0 < room_of self.old) }
-        ensures { Took self.old (pushes (state_of self.old) x) self.new result }
+        requires { Ready self.old }
+        ensures { Took self.old (λ c. pushes c x) self.new result }
     {
         self.pushed.push(x);
         self.pc += 1;
@@ -91,8 +81,8 @@ impl<'a> Machine<'a> {
     }
 
     fn show(&mut self, x: u64) -> Event
-        requires { (self.old.pc < length self.old.words.now) × (0 < room_of self.old) }
-        ensures { Took self.old (shows (state_of self.old) x) self.new result }
+        requires { Ready self.old }
+        ensures { Took self.old (λ c. shows c x) self.new result }
     {
         self.log.push(Shown::Number(x));
         self.pc += 1;
@@ -101,180 +91,145 @@ impl<'a> Machine<'a> {
 
     // Reads the next number.
     fn read(&mut self, r: u8) -> Event
-        requires { (self.old.pc < length self.old.words.now) × (0 < room_of self.old) }
-        ensures { Took self.old (reads (state_of self.old) r) self.new result }
+        requires { Ready self.old }
+        ensures { Took self.old (λ c. reads c r) self.new result }
     {
         self.log.push(Shown::Read);
         let x = self.ins.next();
         self.set(r, x)
     }
 
-    fn load(&mut self, r: u8, a: u64) -> Event
-        requires { self.old.pc < length self.old.words.now }
-        ensures { Took self.old (word (state_of self.old) a (sets (state_of self.old) r)) self.new result }
+    fn load(&mut self, r: u8, a: u8, k: u32) -> Option<Event>
+        requires { Here self.old }
+        ensures { Took self.old (λ c. acts c (Operation.Load r a k)) self.new (unwrap_or result Stuck) }
     {
-        match self.word(a) {
-            Some(x) => self.set(r, x),
-            None => Event::Stuck,
-        }
+        let x = self.regs.read(a)?;
+        let y = self.word(x.wrapping_add(u64::from(k)))?;
+        Some(self.set(r, y))
     }
 
-    fn store(&mut self, a: u64, x: u64) -> Event
-        requires { self.old.pc < length self.old.words.now }
-        ensures { Took self.old (word (state_of self.old) a (λ old. stores (state_of self.old) a x)) self.new result }
+    fn store(&mut self, a: u8, k: u32, r: u8) -> Option<Event>
+        requires { Here self.old }
+        ensures { Took self.old (λ c. acts c (Operation.Store a k r)) self.new (unwrap_or result Stuck) }
     {
-        if self.word(a).is_none() {
-            return Event::Stuck;
-        }
-        self.words[a as usize] = x;
+        let at = self.regs.read(a)?.wrapping_add(u64::from(k));
+        let x = self.regs.read(r)?;
+        self.word(at)?;
+        self.words[at as usize] = x; // get_mut would say nothing of what the words are then
         self.pc += 1;
-        Event::Continue
+        Some(Event::Continue)
     }
 
     // Calls what the slot at an address holds.
-    fn through(&mut self, a: u64) -> Event
-        requires { (self.old.pc < length self.old.words.now) × (0 < room_of self.old) }
-        ensures { Took self.old (through (state_of self.old) a) self.new result }
+    fn through(&mut self, a: u64) -> Option<Event>
+        requires { Ready self.old }
+        ensures { Took self.old (λ c. through c a) self.new (unwrap_or result Stuck) }
     {
-        match self.word(a) {
-            Some(0) => Event::Bind(a),
-            Some(x) => self.enter(x),
-            None => Event::Stuck,
+        match self.word(a)? {
+            0 => Some(Event::Bind(a)),
+            x => Some(self.enter(x)),
         }
     }
 
     // Goes on, and leaves it to others to act.
     fn ask(&mut self, e: Event) -> Event
-        requires { self.old.pc < length self.old.words.now }
-        ensures same { result ≡ e }
-        ensures becomes { state_of self.new ≡ (asks (state_of self.old) Continue).cpu }
-        ensures made { made_of self.new ≡ made_of self.old }
-        ensures room { room_of self.new ≡ room_of self.old }
+        requires { Here self.old }
+        ensures { Took self.old (λ c. asks c e) self.new result }
     {
         self.pc += 1;
         e
     }
 
-    fn compute(&mut self, op: Computation, r: u8, a: u8, b: u8) -> Event
-        requires { self.old.pc < length self.old.words.now }
-        ensures { Took self.old (computes (state_of self.old) r a b (outcome_of op)) self.new result }
+    // What f makes of registers a and b into register r.
+    fn compute<F: FnOnce(u64, u64) -> u64>(&mut self, r: u8, a: u8, b: u8, f: F) -> Option<Event>
+        requires here { Here self.old }
+        requires callable { F.IsAlwaysCallable f }
+        ensures { (z : ℕ) × ((x y : ℕ) → slice_get self.old.regs.values a ≡ Some x → slice_get self.old.regs.values b ≡ Some y → F.post f x y z) × Took self.old (λ c. computes c r a b (λ x y. z)) self.new (unwrap_or result Stuck) }
     {
-        let Some(x) = self.regs.read(a) else {
-            return Event::Stuck;
+        let x = self.regs.read(a)?;
+        let y = self.regs.read(b)?;
+        Some(self.set(r, f(x, y)))
+    }
+
+    fn branch(&mut self, r: u8, k: u32) -> Option<Event>
+        requires { Here self.old }
+        ensures { Took self.old (λ c. acts c (Operation.JumpIfZero r k)) self.new (unwrap_or result Stuck) }
+    {
+        let p = match self.regs.read(r)? {
+            0 => self.there(k),
+            _ => self.pc + 1,
         };
-        let Some(y) = self.regs.read(b) else {
-            return Event::Stuck;
-        };
-        self.set(r, op.apply(x, y))
+        Some(self.jump(p))
     }
 
-    fn load_behind(&mut self, r: u8, a: u8, k: u32) -> Event
-        requires { self.old.pc < length self.old.words.now }
-        ensures { Took self.old (acts (state_of self.old) (Operation.Load r a k)) self.new result }
+    fn open(&mut self, r: u8, k: u32, global: bool) -> Option<Event>
+        requires { Here self.old }
+        ensures { Took self.old (λ c. acts c (Operation.Open r k global)) self.new (unwrap_or result Stuck) }
     {
-        match self.regs.read(a) {
-            Some(x) => self.load(r, x.wrapping_add(k as u64)),
-            None => Event::Stuck,
-        }
+        let x = self.word(self.there(k))?;
+        Some(self.ask(Event::Open(x, r, global)))
     }
 
-    fn store_behind(&mut self, a: u8, k: u32, r: u8) -> Event
-        requires { self.old.pc < length self.old.words.now }
-        ensures { Took self.old (acts (state_of self.old) (Operation.Store a k r)) self.new result }
+    fn find(&mut self, r: u8, a: u8, k: u32) -> Option<Event>
+        requires { Here self.old }
+        ensures { Took self.old (λ c. acts c (Operation.Find r a k)) self.new (unwrap_or result Stuck) }
     {
-        let Some(x) = self.regs.read(a) else {
-            return Event::Stuck;
-        };
-        let Some(y) = self.regs.read(r) else {
-            return Event::Stuck;
-        };
-        self.store(x.wrapping_add(k as u64), y)
-    }
-
-    fn branch(&mut self, r: u8, k: u32) -> Event
-        requires { self.old.pc < length self.old.words.now }
-        ensures { Took self.old (acts (state_of self.old) (Operation.JumpIfZero r k)) self.new result }
-    {
-        match self.regs.read(r) {
-            Some(0) => {
-                let p = self.there(k);
-                self.jump(p)
-            }
-            Some(_) => self.jump(self.pc + 1),
-            None => Event::Stuck,
-        }
-    }
-
-    fn open(&mut self, r: u8, k: u32, global: bool) -> Event
-        requires { self.old.pc < length self.old.words.now }
-        ensures { Took self.old (acts (state_of self.old) (Operation.Open r k global)) self.new result }
-    {
-        match self.word(self.there(k)) {
-            Some(x) => self.ask(Event::Open(x, r, global)),
-            None => Event::Stuck,
-        }
-    }
-
-    fn find(&mut self, r: u8, a: u8, k: u32) -> Event
-        requires { self.old.pc < length self.old.words.now }
-        ensures { Took self.old (acts (state_of self.old) (Operation.Find r a k)) self.new result }
-    {
-        match self.word(self.there(k)) {
-            Some(x) => self.ask(Event::Find(r, a, x)),
-            None => Event::Stuck,
-        }
+        let x = self.word(self.there(k))?;
+        Some(self.ask(Event::Find(r, a, x)))
     }
 
     // What the instruction does at which the machine is.
-    pub(crate) fn execute(&mut self, i: Operation) -> Event
-        requires { (self.old.pc < length self.old.words.now) × (0 < room_of self.old) }
-        ensures { Took self.old (acts (state_of self.old) i) self.new result }
+    fn execute(&mut self, i: Operation) -> Option<Event>
+        requires { Ready self.old }
+        ensures { Took self.old (λ c. acts c i) self.new (unwrap_or result Stuck) }
     {
         match i {
-            Operation::Set(r, k) => self.set(r, k as u64),
-            Operation::Load(r, a, k) => self.load_behind(r, a, k),
-            Operation::Store(a, k, r) => self.store_behind(a, k, r),
-            Operation::Own(r, k) => {
-                let p = self.there(k);
-                self.set(r, p)
+            Operation::Set(r, k) => Some(self.set(r, u64::from(k))),
+            Operation::Load(r, a, k) => self.load(r, a, k),
+            Operation::Store(a, k, r) => self.store(a, k, r),
+            Operation::Own(r, k) => Some(self.set(r, self.there(k))),
+            Operation::Add(r, a, b) => self.compute(r, a, b, |x, y| x.wrapping_add(y)),
+            Operation::Sub(r, a, b) => self.compute(r, a, b, |x, y| x.wrapping_sub(y)),
+            Operation::Mul(r, a, b) => self.compute(r, a, b, |x, y| x.wrapping_mul(y)),
+            Operation::Less(r, a, b) => self.compute(r, a, b, |x, y| u64::from(x < y)),
+            Operation::Same(r, a, b) => self.compute(r, a, b, |x, y| u64::from(x == y)),
+            Operation::Move(r, a) => {
+                let x = self.regs.read(a)?;
+                Some(self.set(r, x))
             }
-            Operation::Add(r, a, b) => self.compute(Computation::Add, r, a, b),
-            Operation::Sub(r, a, b) => self.compute(Computation::Sub, r, a, b),
-            Operation::Mul(r, a, b) => self.compute(Computation::Mul, r, a, b),
-            Operation::Less(r, a, b) => self.compute(Computation::Less, r, a, b),
-            Operation::Same(r, a, b) => self.compute(Computation::Same, r, a, b),
-            Operation::Move(r, a) => match self.regs.read(a) {
-                Some(x) => self.set(r, x),
-                None => Event::Stuck,
-            },
-            Operation::Jump(k) => {
-                let p = self.there(k);
-                self.jump(p)
-            }
+            Operation::Jump(k) => Some(self.jump(self.there(k))),
             Operation::JumpIfZero(r, k) => self.branch(r, k),
-            Operation::Call(k) => {
-                let a = self.there(k);
-                self.through(a)
+            Operation::Call(k) => self.through(self.there(k)),
+            Operation::CallRegister(r) => {
+                let p = self.regs.read(r)?;
+                Some(self.enter(p))
             }
-            Operation::CallRegister(r) => match self.regs.read(r) {
-                Some(x) => self.enter(x),
-                None => Event::Stuck,
-            },
             Operation::Return => self.leave(),
-            Operation::Push(r) => match self.regs.read(r) {
-                Some(x) => self.push(x),
-                None => Event::Stuck,
-            },
+            Operation::Push(r) => {
+                let x = self.regs.read(r)?;
+                Some(self.push(x))
+            }
             Operation::Pop(r) => self.pop(r),
-            Operation::Out(r) => match self.regs.read(r) {
-                Some(x) => self.show(x),
-                None => Event::Stuck,
-            },
-            Operation::In(r) => self.read(r),
+            Operation::Out(r) => {
+                let x = self.regs.read(r)?;
+                Some(self.show(x))
+            }
+            Operation::In(r) => Some(self.read(r)),
             Operation::Open(r, k, global) => self.open(r, k, global),
             Operation::Find(r, a, k) => self.find(r, a, k),
-            Operation::Close(r) => self.ask(Event::Close(r)),
-            Operation::End(r) => self.ask(Event::End(r)),
+            Operation::Close(r) => Some(self.ask(Event::Close(r))),
+            Operation::End(r) => Some(self.ask(Event::End(r))),
         }
+    }
+
+    // What the word says at which the machine is.
+    #[tactic(auto, using(processor::proofs::Decoding::decodes))]
+    pub(crate) fn advance(&mut self) -> Option<Event>
+        requires { 0 < room_of self.old }
+        ensures { Took self.old (λ c. word c c.pc (λ w. does c (parts w))) self.new (unwrap_or result Stuck) }
+    {
+        let w = self.word(self.at())?;
+        let operation = decode(w)?;
+        self.execute(operation)
     }
 }

@@ -3,7 +3,6 @@ use crate::running::after;
 use machine::{Machine, Shown};
 use noting::{Noting, Poke};
 use processor::{Cpu, Event, place};
-use std::test::Fail;
 
 #[test]
 fn one_past_the_memory(rt: HostRuntime) {
@@ -46,7 +45,7 @@ fn room_is_the_shortest_row(rt: HostRuntime) {
 }
 
 #[test]
-fn pokes_are_noted(rt: HostRuntime) -> Result<(), Fail> {
+fn pokes_are_noted(rt: HostRuntime) {
     let mut words = [0u64; 6];
     let mut returns = [0u64; 3];
     let mut pushed = [0u64; 3];
@@ -57,13 +56,12 @@ fn pokes_are_noted(rt: HostRuntime) -> Result<(), Fail> {
     place(&mut noting, 1, &[8, 9]);
     noting.set_reg(3, 4);
     assert!(rt; noting.is_complete());
-    let [first, second, third] = noting.pokes() else {
-        return Err(Fail::new("three pokes"));
-    };
-    assert_eq!(rt; *first, Poke { at: 5, word: 77 });
-    assert_eq!(rt; *second, Poke { at: 1, word: 8 });
-    assert_eq!(rt; *third, Poke { at: 2, word: 9 });
+    let wanted = [
+        Poke { at: 5, word: 77 },
+        Poke { at: 1, word: 8 },
+        Poke { at: 2, word: 9 },
+    ];
+    assert_eq!(rt; noting.pokes(), &wanted[..]);
     assert_eq!(rt; noting.peek(2), 9);
     assert_eq!(rt; noting.reg(3), 4);
-    Ok(())
 }

@@ -38,19 +38,16 @@ pub fn after<const N: usize, const M: usize>(
     let mut pushed = [0u64; 8];
     let mut log = [Shown::Read; 8];
     let mut machine = Machine::new(&mut words, &mut returns, &mut pushed, &input, &mut log);
-    for r in 0..8u8 {
-        machine.set_reg(r, REGS[r as usize]);
+    for (r, x) in REGS.iter().enumerate() {
+        machine.set_reg(r as u8, *x);
     }
     machine.go(start);
     let event = run(&mut machine, steps);
-    let mut regs = [0u64; 8];
-    for r in 0..8u8 {
-        regs[r as usize] = machine.reg(r);
+    let mut regs = [0; 8];
+    for (r, x) in regs.iter_mut().enumerate() {
+        *x = machine.reg(r as u8);
     }
-    let shown = match machine.shown() {
-        [.., last] => Some(*last),
-        [] => None,
-    };
+    let shown = machine.shown().last().copied();
     let at = machine.at();
     Seen {
         event,

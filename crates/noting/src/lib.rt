@@ -3,11 +3,9 @@
 
 ghost use Rattle.std.specs.Prelude.{◌≡◌, ◌+◌, ◌<◌, ◌≤◌, min, true, [], length};
 ghost use Rattle.processor.specs.Cpu.{step, poked, called, gone, with_reg};
-ghost use Rattle.processor.specs.Told.{Tells};
-ghost use Rattle.noting.specs.Kept.{kept, Noted};
+ghost use Rattle.noting.specs.Kept.{kept, Noted, Became};
 
 mod notes;
-mod taking;
 
 use notes::Notes;
 pub use notes::Poke;
@@ -70,9 +68,7 @@ impl<P: Cpu> Cpu for Noting<P> {
     // Noted; every other call leaves the notes as they are.
     fn poke(&mut self, a: usize, x: u64)
         requires { a < length (P.Cpu.state self.old.inner).words }
-        ensures counts { P.Cpu.made self.new.inner ≡ P.Cpu.made self.old.inner }
-        ensures roomy { P.Cpu.room self.old.inner ≤ P.Cpu.room self.new.inner }
-        ensures becomes { P.Cpu.state self.new.inner ≡ poked (P.Cpu.state self.old.inner) a x }
+        ensures became { Became P.Cpu (λ c. poked c a x) 0 self.old.inner self.new.inner }
         ensures notes { Noted (kept self.old.notes) (record { at = a; word = x }) (kept self.new.notes) }
     {
         self.notes.note(Poke { at: a, word: x });
@@ -85,9 +81,7 @@ impl<P: Cpu> Cpu for Noting<P> {
 
     fn set_reg(&mut self, r: u8, x: u64)
         requires { r < 8 }
-        ensures counts { P.Cpu.made self.new.inner ≡ P.Cpu.made self.old.inner }
-        ensures roomy { P.Cpu.room self.old.inner ≤ P.Cpu.room self.new.inner }
-        ensures becomes { P.Cpu.state self.new.inner ≡ with_reg (P.Cpu.state self.old.inner) r x }
+        ensures became { Became P.Cpu (λ c. with_reg c r x) 0 self.old.inner self.new.inner }
         ensures notes { kept self.new.notes ≡ kept self.old.notes }
     {
         self.inner.set_reg(r, x);
@@ -95,18 +89,14 @@ impl<P: Cpu> Cpu for Noting<P> {
 
     fn call(&mut self, p: u64, b: u64)
         requires { 0 < P.Cpu.room self.old.inner }
-        ensures counts { P.Cpu.made self.new.inner ≡ P.Cpu.made self.old.inner }
-        ensures roomy { P.Cpu.room self.old.inner ≤ P.Cpu.room self.new.inner + 1 }
-        ensures becomes { P.Cpu.state self.new.inner ≡ called (P.Cpu.state self.old.inner) p b }
+        ensures became { Became P.Cpu (λ c. called c p b) 1 self.old.inner self.new.inner }
         ensures notes { kept self.new.notes ≡ kept self.old.notes }
     {
         self.inner.call(p, b);
     }
 
     fn go(&mut self, p: u64)
-        ensures counts { P.Cpu.made self.new.inner ≡ P.Cpu.made self.old.inner }
-        ensures roomy { P.Cpu.room self.old.inner ≤ P.Cpu.room self.new.inner }
-        ensures becomes { P.Cpu.state self.new.inner ≡ gone (P.Cpu.state self.old.inner) p }
+        ensures became { Became P.Cpu (λ c. gone c p) 0 self.old.inner self.new.inner }
         ensures notes { kept self.new.notes ≡ kept self.old.notes }
     {
         self.inner.go(p);
@@ -117,7 +107,7 @@ impl<P: Cpu> Cpu for Noting<P> {
         ensures counts { P.Cpu.made self.new.inner ≡ min 9223372036854775807 (P.Cpu.made self.old.inner + 1) }
         ensures roomy { P.Cpu.room self.old.inner ≤ P.Cpu.room self.new.inner + 1 }
         ensures becomes { P.Cpu.state self.new.inner ≡ (step (P.Cpu.state self.old.inner)).cpu }
-        ensures tells { Tells (step (P.Cpu.state self.old.inner)).event result }
+        ensures tells { result ≡ (step (P.Cpu.state self.old.inner)).event }
         ensures notes { kept self.new.notes ≡ kept self.old.notes }
     {
         self.inner.step()

@@ -2,7 +2,8 @@
 use Rattle.std.specs.Prelude.{cond, slice_get}
 use Rattle.std.proofs.Common.{◌≡◌, ℕ, Bool, true, false, eqb, Some, Option, sym, refl, ap, ◌∙◌, ne_eqb}
 use Rattle.base.specs.Choices.{opt}
-use Rattle.processor.specs.Cpu.{Processor, Did, Parts, Home, Stuck, did, does, parts, step}
+use Rattle.processor.specs.Cpu.{Processor, Did, Parts, did, does, parts, step}
+use Rattle.processor.specs.declared.Event.TheVariants.{Home, Stuck}
 use Rattle.processor.specs.Operations.{kind, act, decoded}
 use Rattle.processor.specs.Laws.{Decodes}
 use Rattle.processor.specs.declared.words.Operation.{Operation}

@@ -5,6 +5,7 @@ use Rattle.std.proofs.Common.{◌≡◌, ℕ, Bool, true, false, eqb, List, [], 
 use Rattle.base.specs.Choices.{opt}
 use Rattle.processor.specs.Cpu
 use Rattle.processor.specs.Cpu.{Processor, Did, computes, did, step}
+use Rattle.processor.specs.declared.Event.TheVariants as event
 use Rattle.processor.specs.Operations.{acts, act, decoded}
 use Rattle.processor.specs.Laws.{Front, ShowsMore, KeepsSize}
 use Rattle.processor.specs.declared.words.Operation.{Operation}
@@ -24,7 +25,7 @@ module _ (c : Processor) where
   pick_keeps true d e p q = p
   pick_keeps false d e p q = q
 
-  opt_keeps : (o : Option ℕ) (f : ℕ → Did) → ((x : ℕ) → Keeps c (f x)) → Keeps c (opt o (did c Cpu.Stuck) f)
+  opt_keeps : (o : Option ℕ) (f : ℕ → Did) → ((x : ℕ) → Keeps c (f x)) → Keeps c (opt o (did c event.Stuck) f)
   opt_keeps None f h = same refl refl
   opt_keeps (Some x) f h = h x
 

@@ -1,6 +1,8 @@
 -- A processor with one row of words, which knows nothing of libraries.
 use Rattle.std.specs.Prelude.{ℕ, suc, ◌+◌, ◌-◌, ◌*◌, ◌/◌, ◌%◌, Bool, List, [], ◌∷◌, ◌++◌, drop, replicate, ◌==◌, nat_lt, cond, slice_get, slice_set}
 use Rattle.base.specs.Choices.{opt}
+use Rattle.processor.specs.declared.Event.{Event}
+use Rattle.processor.specs.declared.Event.TheVariants.{Continue, Home, Stuck, Bind, Open, Find, Close, End}
 
 -- words at addresses from 0, eight registers, the address of the next instruction, addresses to return to and words pushed, newest first, what is left to read, and what was shown, oldest first
 pub record Processor : Type 0 where
@@ -11,17 +13,6 @@ pub record Processor : Type 0 where
   pub pushed : List ℕ
   pub ins : List ℕ
   pub outs : List ℕ
-
--- what a step comes to: it goes on, is back at address 0, or is stuck; or others must act: Bind (the address of a slot that is 0; the step is made again), Open (the name's word, a register, whether global), Find (a register, the group's register, the name's word), Close and End (a register)
-pub data Event : Type 0 where
-  Continue : Event
-  Home : Event
-  Stuck : Event
-  Bind : ℕ → Event
-  Open : ℕ → ℕ → Bool → Event
-  Find : ℕ → ℕ → ℕ → Event
-  Close : ℕ → Event
-  End : ℕ → Event
 
 -- the processor after a step, and the step's event
 pub record Did : Type 0 where

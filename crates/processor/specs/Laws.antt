@@ -1,7 +1,8 @@
 -- What holds of every step, of every instruction word, and of words laid down.
-use Rattle.std.specs.Prelude.{◌≡◌, ℕ, ◌+◌, ◌<◌, ◌≤◌, List, [], ◌∷◌, length, slice_get}
-use Rattle.processor.specs.Cpu.{Processor, step, does, parts}
-use Rattle.processor.specs.Operations.{act, decoded}
+use Rattle.std.specs.Prelude.{◌≡◌, ℕ, ◌+◌, ◌<◌, ◌≤◌, List, [], ◌∷◌, length, Some, slice_get}
+use Rattle.processor.specs.Cpu.{Processor, Parts, step, does, parts, wide}
+use Rattle.processor.specs.Operations.{act, decoded, encoded, fields}
+use Rattle.processor.specs.declared.words.Operation.{Operation}
 use Rattle.processor.specs.Laid.{laid}
 
 -- the second list begins with the first
@@ -20,6 +21,19 @@ KeepsSize = (c : Processor) → length (step c).cpu.words ≡ length c.words
 -- a word does what the instruction does that it is decoded to
 abbrev pub Decodes : Type 0
 Decodes = (c : Processor) (w : ℕ) → does c (parts w) ≡ act c (decoded w)
+
+-- each field has room in a word
+pub record Fits (p : Parts) : Type 0 where
+  pub o : p.o < 256
+  pub r : p.r < 256
+  pub a : p.a < 256
+  pub b : p.b < 256
+  pub k : p.k < wide
+
+-- an instruction's word is decoded to it, and from the word its fields are read
+pub record Encodes : Type 0 where
+  pub fields_back : (i : Operation) → Fits (fields i) → parts (encoded i) ≡ fields i
+  pub operation_back : (i : Operation) → Fits (fields i) → decoded (encoded i) ≡ Some i
 
 -- words laid down lie from their address on, and all others stay, as many as there were
 abbrev pub Lies : Type 0

@@ -1,6 +1,6 @@
--- Instructions by kind, and what each does: the same as the definition by numbers.
+-- Instructions by kind, their words, and what each does: the same as the definition by numbers.
 use Rattle.std.specs.Prelude.{ℕ, suc, ◌+◌, ◌-◌, ◌*◌, ◌%◌, Some, None, Option, ◌==◌, nat_lt, cond}
-use Rattle.processor.specs.Cpu
+use Rattle.processor.specs.declared.Event.TheVariants as event
 use Rattle.processor.specs.Cpu.{Processor, Did, Parts, parts, did, all, reg, word, sets, there, goes, stores, calls, through, returns, pushes, pops, shows, reads, asks, bit, computes}
 use Rattle.processor.specs.declared.words.Operation.{Operation}
 use Rattle.processor.specs.declared.words.Operation.TheVariants.{Set, Load, Store, Own, Add, Sub, Mul, Less, Same, Move, Jump, JumpIfZero, Call, CallRegister, Return, Push, Pop, Out, In, Open, Find, Close, End}
@@ -36,6 +36,40 @@ kind p =
 abbrev pub decoded : ℕ → Option Operation
 decoded w = kind (parts w)
 
+-- the fields of an instruction; the numbers are those by which it is found
+abbrev pub fields : Operation → Parts
+fields (Set r k) = record { o = 1; r = r; a = 0; b = 0; k = k }
+fields (Load r a k) = record { o = 2; r = r; a = a; b = 0; k = k }
+fields (Store a k r) = record { o = 3; r = r; a = a; b = 0; k = k }
+fields (Own r k) = record { o = 4; r = r; a = 0; b = 0; k = k }
+fields (Add r a b) = record { o = 5; r = r; a = a; b = b; k = 0 }
+fields (Sub r a b) = record { o = 6; r = r; a = a; b = b; k = 0 }
+fields (Mul r a b) = record { o = 7; r = r; a = a; b = b; k = 0 }
+fields (Less r a b) = record { o = 8; r = r; a = a; b = b; k = 0 }
+fields (Same r a b) = record { o = 9; r = r; a = a; b = b; k = 0 }
+fields (Move r a) = record { o = 10; r = r; a = a; b = 0; k = 0 }
+fields (Jump k) = record { o = 11; r = 0; a = 0; b = 0; k = k }
+fields (JumpIfZero r k) = record { o = 12; r = r; a = 0; b = 0; k = k }
+fields (Call k) = record { o = 13; r = 0; a = 0; b = 0; k = k }
+fields (CallRegister r) = record { o = 14; r = r; a = 0; b = 0; k = 0 }
+fields Return = record { o = 15; r = 0; a = 0; b = 0; k = 0 }
+fields (Push r) = record { o = 16; r = r; a = 0; b = 0; k = 0 }
+fields (Pop r) = record { o = 17; r = r; a = 0; b = 0; k = 0 }
+fields (Out r) = record { o = 18; r = r; a = 0; b = 0; k = 0 }
+fields (In r) = record { o = 19; r = r; a = 0; b = 0; k = 0 }
+fields (Open r k global) = record { o = 20; r = r; a = cond global 1 0; b = 0; k = k }
+fields (Find r a k) = record { o = 21; r = r; a = a; b = 0; k = k }
+fields (Close r) = record { o = 22; r = r; a = 0; b = 0; k = 0 }
+fields (End r) = record { o = 23; r = r; a = 0; b = 0; k = 0 }
+
+-- fields put together
+unfoldable pub pack : Parts → ℕ
+pack p = p.o + (256 * p.r + (65536 * p.a + (16777216 * p.b + 4294967296 * p.k)))
+
+-- the word of an instruction
+abbrev pub encoded : Operation → ℕ
+encoded i = pack (fields i)
+
 -- what an instruction does
 abbrev pub acts : Processor → Operation → Did
 acts c (Set r k) = sets c r k
@@ -57,12 +91,12 @@ acts c (Push r) = reg c r (pushes c)
 acts c (Pop r) = pops c r c.pushed
 acts c (Out r) = reg c r (shows c)
 acts c (In r) = reads c r
-acts c (Open r k global) = word c (there c k) (λ x. asks c (Cpu.Open x r global))
-acts c (Find r a k) = word c (there c k) (λ x. asks c (Cpu.Find r a x))
-acts c (Close r) = asks c (Cpu.Close r)
-acts c (End r) = asks c (Cpu.End r)
+acts c (Open r k global) = word c (there c k) (λ x. asks c (event.Open x r global))
+acts c (Find r a k) = word c (there c k) (λ x. asks c (event.Find r a x))
+acts c (Close r) = asks c (event.Close r)
+acts c (End r) = asks c (event.End r)
 
 -- what a word does, once decoded; stuck where it is no instruction
 abbrev pub act : Processor → Option Operation → Did
-act c None = did c Cpu.Stuck
+act c None = did c event.Stuck
 act c (Some i) = acts c i

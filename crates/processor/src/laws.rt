@@ -1,7 +1,8 @@
 // Theorems of the processor.
-ghost use Rattle.processor.specs.Laws.{Decodes, Lies, KeepsSize, ShowsMore};
+ghost use Rattle.processor.specs.Laws.{Decodes, Encodes, Lies, KeepsSize, ShowsMore};
 
 // What was shown stays shown.
+#[tactic(auto, using(crate::proofs::Steps::step_shows))]
 pub fn shows_more() -> u8
     ensures { ShowsMore }
 {
@@ -9,6 +10,7 @@ pub fn shows_more() -> u8
 }
 
 // A step changes no memory's size.
+#[tactic(auto, using(crate::proofs::Steps::step_sized))]
 pub fn keeps_size() -> u8
     ensures { KeepsSize }
 {
@@ -16,8 +18,17 @@ pub fn keeps_size() -> u8
 }
 
 // A word does what the instruction does that it is decoded to.
+#[tactic(auto, using(crate::proofs::Decoding::decodes))]
 pub fn decodes() -> u8
     ensures { Decodes }
+{
+    0
+}
+
+// An instruction's word is decoded to the instruction that it was made from.
+#[tactic(auto, using(crate::proofs::Encoding::encodes))]
+pub fn encodes() -> u8
+    ensures { Encodes }
 {
     0
 }

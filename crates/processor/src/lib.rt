@@ -3,13 +3,12 @@
 
 ghost use Rattle.std.specs.Prelude.{◌≡◌, ℕ, ◌+◌, ◌<◌, ◌≤◌, min, length, slice_index};
 ghost use Rattle.processor.specs.Cpu.{Processor, step, poked, called, gone, with_reg};
-ghost use Rattle.processor.specs.Told.{Tells};
 
 mod laws;
 mod memory;
 mod words;
 
-pub use laws::{decodes, keeps_size, lies, shows_more};
+pub use laws::{decodes, encodes, keeps_size, lies, shows_more};
 pub use memory::place;
 pub use words::{Operation, decode};
 
@@ -84,5 +83,5 @@ pub trait Cpu {
         ensures counts { made self.new ≡ min 9223372036854775807 (made self.old + 1) }
         ensures roomy { room self.old ≤ room self.new + 1 }
         ensures becomes { state self.new ≡ (step (state self.old)).cpu }
-        ensures tells { Tells (step (state self.old)).event result };
+        ensures tells { result ≡ (step (state self.old)).event };
 }

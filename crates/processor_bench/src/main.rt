@@ -15,6 +15,8 @@ use std::env;
 // Steps between two tests of whether there is room for as many.
 const BATCH: usize = 1000;
 
+const USAGE: &str = "rounds of arithmetic, then of calls";
+
 // Makes so many steps, or stops at the first that doesn't go on.
 fn batch<P: Cpu>(cpu: &mut P) -> Event
     requires { 1000 ≤ P.room cpu.old }
@@ -28,18 +30,18 @@ fn batch<P: Cpu>(cpu: &mut P) -> Event
     Event::Continue
 }
 
-// Runs to the end, for lack of room or of batches at most.
-fn spin(machine: &mut Machine, batches: u64) -> Event {
+// Whether the machine gets home, in so many batches at most and while there is room for each.
+fn gets_home(machine: &mut Machine, batches: u64) -> bool {
     for _ in 0..batches {
         if machine.room_left() < BATCH {
-            return Event::Stuck;
+            return false;
         }
         match batch(machine) {
             Event::Continue => {}
-            other => return other,
+            event => return event == Event::Home,
         }
     }
-    Event::Continue
+    false
 }
 
 // The number that a program shows last, once it is home.
@@ -60,7 +62,7 @@ fn shown_by(heap: Global, program: &[u64], rounds: u64) -> Result<Option<u64>, A
         return Ok(None);
     }
     machine.call(1, 0);
-    if spin(&mut machine, rounds) != Event::Home {
+    if !gets_home(&mut machine, rounds) {
         return Ok(None);
     }
     match machine.shown() {
@@ -80,8 +82,8 @@ fn report(rt: &HostRuntime, name: &str, program: &[u64], rounds: u64) -> anyhow:
 fn run(rt: &HostRuntime) -> anyhow::Result<()> {
     let mut args = env::args(rt)?;
     let _ = args.next();
-    let arithmetic = args.next().context("rounds of arithmetic, then of calls")?;
-    let calls = args.next().context("rounds of arithmetic, then of calls")?;
+    let arithmetic = args.next().context(USAGE)?;
+    let calls = args.next().context(USAGE)?;
     report(rt, "arithmetic", &ARITHMETIC, arithmetic.parse::<u64>()?)?;
     report(rt, "calls", &CALLS, calls.parse::<u64>()?)
 }

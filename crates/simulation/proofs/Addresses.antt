@@ -13,6 +13,7 @@ use Rattle.meaning.specs.State.{Held, val, link, label, code, State, Next, goes,
 use Rattle.meaning.specs.Steps as steps
 use Rattle.processor.specs.Cpu
 use Rattle.processor.specs.Cpu.{Processor, Did}
+use Rattle.processor.specs.declared.Event.TheVariants as events
 use Rattle.image.specs.Encode.{fields}
 use Rattle.simulation.specs.Layout.{Layout, base_of, size_of}
 use Rattle.simulation.specs.Relation.{Rel}
@@ -41,18 +42,18 @@ module _ (ls : List Library) (k : Layout) (m : Room) (s t : State) (c : Processo
   reg_same : (a : ℕ) (f : ℕ → Did) → ((x : ℕ) → SameWords (f x)) → SameWords (Cpu.reg c a f)
   reg_same a f h = go (slice_get c.regs a)
     where
-      go : (o : Option ℕ) → SameWords (opt o (Cpu.did c Cpu.Stuck) f)
+      go : (o : Option ℕ) → SameWords (opt o (Cpu.did c events.Stuck) f)
       go None = record { same = refl }
       go (Some x) = h x
 
   word_same : (a : ℕ) (f : ℕ → Did) → ((x : ℕ) → SameWords (f x)) → SameWords (Cpu.word c a f)
   word_same a f h = go (slice_get c.words a)
     where
-      go : (o : Option ℕ) → SameWords (opt o (Cpu.did c Cpu.Stuck) f)
+      go : (o : Option ℕ) → SameWords (opt o (Cpu.did c events.Stuck) f)
       go None = record { same = refl }
       go (Some x) = h x
 
-  call_same : (a x : ℕ) (b : Bool) → SameWords (cond b (Cpu.did c (Cpu.Bind a)) (Cpu.calls c x))
+  call_same : (a x : ℕ) (b : Bool) → SameWords (cond b (Cpu.did c (events.Bind a)) (Cpu.calls c x))
   call_same a x true = record { same = refl }
   call_same a x false = record { same = refl }
 

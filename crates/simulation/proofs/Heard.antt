@@ -25,7 +25,10 @@ use Rattle.meaning.specs.Calls as calls
 use Rattle.meaning.specs.Values as values
 use Rattle.meaning.specs.Steps as steps
 use Rattle.processor.specs.Cpu
-use Rattle.processor.specs.Cpu.{Processor, Did, Event, Continue, did, asks, poked, with_reg}
+use Rattle.processor.specs.Cpu.{Processor, Did, did, asks, poked, with_reg}
+use Rattle.processor.specs.declared.Event.{Event}
+use Rattle.processor.specs.declared.Event.TheVariants.{Continue}
+use Rattle.processor.specs.declared.Event.TheVariants as events
 use Rattle.processor.specs.Laws.{Front}
 use Rattle.processor.proofs.Shown.{front_self, front_trans}
 use Rattle.processor.proofs.Steps.{step_shows}
@@ -51,14 +54,14 @@ pub fell_more : (f : ℕ → Next) (c : Processor) → Fell f c.outs → Fell f 
 fell_more f c x = (x.0, x.1, x.2, front_trans x.3 (step_shows c))
 
 fell_hears : (w : World) (l : Loader) (i : ℕ) (c : Processor) (e : Event) → Fell (at w) c.outs → Hears w l i c e
-fell_hears w l i c Cpu.Continue f = fallen f
-fell_hears w l i c Cpu.Home f = inl f
-fell_hears w l i c Cpu.Stuck f = f
-fell_hears w l i c (Cpu.Bind a) f = inl f
-fell_hears w l i c (Cpu.Open n r b) f = inl f
-fell_hears w l i c (Cpu.Find r s n) f = inl f
-fell_hears w l i c (Cpu.Close r) f = inl f
-fell_hears w l i c (Cpu.End r) f = inl f
+fell_hears w l i c events.Continue f = fallen f
+fell_hears w l i c events.Home f = inl f
+fell_hears w l i c events.Stuck f = f
+fell_hears w l i c (events.Bind a) f = inl f
+fell_hears w l i c (events.Open n r b) f = inl f
+fell_hears w l i c (events.Find r s n) f = inl f
+fell_hears w l i c (events.Close r) f = inl f
+fell_hears w l i c (events.End r) f = inl f
 
 -- what the loader keeps, from the state of the meaning
 abbrev of_state : Layout → State → Loader
@@ -330,7 +333,7 @@ module _ (w : World) (k : Layout) (i n : ℕ) (z : State) (c : Processor) (fine 
 pub step_heard : StepHeard
 step_heard w l i c fine room (in_code n z h e m rel) = subst (λ x. Hears w x (suc i) (Cpu.step c).cpu (Cpu.step c).event) (matches_is l z m) (by_turn w l.layout i n z c fine room h e rel (turn l.layout w.libs w.memory z c rel))
 step_heard w l i c fine room (calling n z t h e e' m q r o) = rw q (in_code (suc n) t (omega arith) e' m r)
-step_heard w l i c fine room (homing n z ps f fs h e s q x m p idle) = let d : Cpu.step c ≡ did c Cpu.Home = rw (eq-eqb c.pc 0 p) in subst (λ d. Hears w l (suc i) d.cpu d.event) (sym d) (inr (record {
+step_heard w l i c fine room (homing n z ps f fs h e s q x m p idle) = let d : Cpu.step c ≡ did c events.Home = rw (eq-eqb c.pc 0 p) in subst (λ d. Hears w l (suc i) d.cpu d.event) (sym d) (inr (record {
   n = n;
   z = z;
   ps = ps;

@@ -17,6 +17,7 @@ use Rattle.meaning.specs.State as state
 use Rattle.meaning.specs.Values as values
 use Rattle.meaning.specs.Steps as steps
 use Rattle.processor.specs.Cpu.{Processor, Did, did}
+use Rattle.processor.specs.declared.Event.TheVariants as events
 use Rattle.processor.specs.Cpu
 use Rattle.image.specs.Encode.{fields}
 use Rattle.simulation.proofs.Plain.{on_reg_any, Good, held_inv, next_at, own_there, calls_good}
@@ -117,6 +118,6 @@ module _ (ls : List Library) (k : Layout) (s : State) (c : Processor) (rel : Rel
     pub call_good : (j : ℕ) (y : Symbol) (v : Value) → j < size_of k s.core.here.host → steps.own s j ≡ Some (link y (Some v)) → Good ls k s c.outs (steps.does ls m s (Call j)) (Cpu.does c (fields (Call j) s.core.here.cell))
     call_good j y v h e = let t = has_word s.core.here.host j (link y (Some v)) e in rw (e, own_there ls k s c rel m low j h, t.1) (go v t.0 t.2.0 t.2.1)
       where
-        go : (v : Value) (w : ℕ) → w ≡ addr k v → Fits k v → Good ls k s c.outs (steps.calls_place s v) (cond (eqb w 0) (Cpu.did c (Cpu.Bind (base_of k s.core.here.host + j))) (Cpu.calls c w))
+        go : (v : Value) (w : ℕ) → w ≡ addr k v → Fits k v → Good ls k s c.outs (steps.calls_place s v) (cond (eqb w 0) (Cpu.did c (events.Bind (base_of k s.core.here.host + j))) (Cpu.calls c w))
         go (num n) w q f = (sym rel.outs)
         go (place i l) w q f = rw (ne_eqb w 0 (λ z. omega (arith, rel.mem.ground.placed.first i f.0))) (calls_good ls k s c rel m low (place_at i l) w (record { is = q; fit = f }))

@@ -19,7 +19,9 @@ use Rattle.meaning.specs.State as state
 use Rattle.meaning.specs.Calls as calls
 use Rattle.meaning.specs.Values as values
 use Rattle.meaning.specs.Steps as steps
-use Rattle.processor.specs.Cpu.{Processor, Did, Continue, did}
+use Rattle.processor.specs.Cpu.{Processor, Did, did}
+use Rattle.processor.specs.declared.Event.TheVariants.{Continue}
+use Rattle.processor.specs.declared.Event.TheVariants as events
 use Rattle.processor.specs.Cpu
 use Rattle.image.specs.Encode.{fields, apart}
 use Rattle.image.proofs.Decode.{apart_there}
@@ -80,10 +82,10 @@ module _ (ls : List Library) (k : Layout) (s : State) (c : Processor) (rel : Rel
   reg_is a = ap (λ rs. slice_get rs a) rel.regs.are ∙ slice_get-map (addr k) s.core.regs a
 
   -- a register that is read
-  pub on_reg_any : (P : Next → Did → Type 0) (a : ℕ) (f : Value → Next) (g : ℕ → Did) → P (wrong s) (Cpu.did c Cpu.Stuck) → ((v : Value) → Fits k v → P (f v) (g (addr k v))) → P (values.on_val s (values.reg s a) f) (Cpu.reg c a g)
+  pub on_reg_any : (P : Next → Did → Type 0) (a : ℕ) (f : Value → Next) (g : ℕ → Did) → P (wrong s) (Cpu.did c events.Stuck) → ((v : Value) → Fits k v → P (f v) (g (addr k v))) → P (values.on_val s (values.reg s a) f) (Cpu.reg c a g)
   on_reg_any P a f g fell h = rw (reg_is a) (go (slice_get s.core.regs a) refl)
     where
-      go : (o : Option Value) → slice_get s.core.regs a ≡ o → P (values.on_val s o f) (opt (option_map (addr k) o) (Cpu.did c Cpu.Stuck) g)
+      go : (o : Option Value) → slice_get s.core.regs a ≡ o → P (values.on_val s o f) (opt (option_map (addr k) o) (Cpu.did c events.Stuck) g)
       go None e = fell
       go (Some v) e = h v (all_slice_get (Fits k) s.core.regs a v rel.regs.fit e)
 
@@ -93,7 +95,7 @@ module _ (ls : List Library) (k : Layout) (s : State) (c : Processor) (rel : Rel
   on_number : (a : ℕ) (f : ℕ → Next) (g : ℕ → Did) → ((n : ℕ) → n < Cpu.all → Good ls k s c.outs (f n) (g n)) → Good ls k s c.outs (values.on_num s (values.reg s a) f) (Cpu.reg c a g)
   on_number a f g h = rw (reg_is a) (go (slice_get s.core.regs a) refl)
     where
-      go : (o : Option Value) → slice_get s.core.regs a ≡ o → Good ls k s c.outs (values.on_num s o f) (opt (option_map (addr k) o) (Cpu.did c Cpu.Stuck) g)
+      go : (o : Option Value) → slice_get s.core.regs a ≡ o → Good ls k s c.outs (values.on_num s o f) (opt (option_map (addr k) o) (Cpu.did c events.Stuck) g)
       go None e = (sym rel.outs)
       go (Some (num n)) e = h n (all_slice_get (Fits k) s.core.regs a (num n) rel.regs.fit e)
       go (Some (place i j)) e = (sym rel.outs)

@@ -13,7 +13,9 @@ use Rattle.links.specs.Close.{leaving, unload, close_group, fini_calls, is_open,
 use Rattle.meaning.specs.State.{State, ended, lost, place_of}
 use Rattle.meaning.specs.Runs.{blank}
 use Rattle.processor.specs.Cpu
-use Rattle.processor.specs.Cpu.{Processor, Event, poked, called, gone, with_reg, fresh, wide}
+use Rattle.processor.specs.Cpu.{Processor, poked, called, gone, with_reg, fresh, wide}
+use Rattle.processor.specs.declared.Event.{Event}
+use Rattle.processor.specs.declared.Event.TheVariants as events
 use Rattle.processor.specs.Laid.{with_words}
 use Rattle.simulation.specs.Layout.{Layout, base_of, size_of, addr, addr_place, FitsPlace}
 use Rattle.simulation.specs.Rows.{Resume, resume, discard, finish, stop, Row, row, closing_rows}
@@ -102,14 +104,14 @@ pub record Ending (w : World) (l : Loader) (i : ℕ) (c : Processor) (r : ℕ) :
 
 -- what holds when a step told an event; c: the processor behind the step, i: steps made, this one too
 abbrev pub Hears : World → Loader → ℕ → Processor → Event → Type 0
-Hears w l i c Cpu.Continue = Stands w l i c
-Hears w l i c Cpu.Home = Fell (at w) c.outs ⊎ Between w l i c
-Hears w l i c Cpu.Stuck = Fell (at w) c.outs
-Hears w l i c (Cpu.Bind a) = Fell (at w) c.outs ⊎ Binding w l i c a
-Hears w l i c (Cpu.Open n r global) = Fell (at w) c.outs ⊎ Opening w l i c n r global
-Hears w l i c (Cpu.Find r s n) = Fell (at w) c.outs ⊎ Finding w l i c r s n
-Hears w l i c (Cpu.Close r) = Fell (at w) c.outs ⊎ Closing w l i c r
-Hears w l i c (Cpu.End r) = Fell (at w) c.outs ⊎ Ending w l i c r
+Hears w l i c events.Continue = Stands w l i c
+Hears w l i c events.Home = Fell (at w) c.outs ⊎ Between w l i c
+Hears w l i c events.Stuck = Fell (at w) c.outs
+Hears w l i c (events.Bind a) = Fell (at w) c.outs ⊎ Binding w l i c a
+Hears w l i c (events.Open n r global) = Fell (at w) c.outs ⊎ Opening w l i c n r global
+Hears w l i c (events.Find r s n) = Fell (at w) c.outs ⊎ Finding w l i c r s n
+Hears w l i c (events.Close r) = Fell (at w) c.outs ⊎ Closing w l i c r
+Hears w l i c (events.End r) = Fell (at w) c.outs ⊎ Ending w l i c r
 
 -- it holds after every step, of a program whose libraries are in range and whose room is the processor's memory
 abbrev pub StepHeard : Type 0

@@ -7,7 +7,8 @@ use Rattle.meaning.specs.Calls.{returns}
 use Rattle.meaning.specs.Steps.{step}
 use Rattle.meaning.specs.Runs.{after}
 use Rattle.processor.specs.Cpu
-use Rattle.processor.specs.Cpu.{Processor, Continue}
+use Rattle.processor.specs.Cpu.{Processor}
+use Rattle.processor.specs.declared.Event.TheVariants.{Continue}
 use Rattle.simulation.specs.Layout.{Layout, FitsFrame}
 use Rattle.simulation.specs.Relation.{Rel, Idle}
 use Rattle.simulation.specs.Rows.{Row, pendings}

@@ -7,7 +7,10 @@ use Rattle.links.specs.Links.{Place, Room}
 use Rattle.meaning.specs.State.{link, label, code, Sequel, Frame, pending, State, goes, wrong}
 use Rattle.meaning.specs.Steps as steps
 use Rattle.processor.specs.Cpu
-use Rattle.processor.specs.Cpu.{Processor, Event, Did, Continue, did}
+use Rattle.processor.specs.Cpu.{Processor, Did, did}
+use Rattle.processor.specs.declared.Event.{Event}
+use Rattle.processor.specs.declared.Event.TheVariants.{Continue}
+use Rattle.processor.specs.declared.Event.TheVariants as events
 use Rattle.simulation.specs.Layout.{Layout, base_of, FitsFrame}
 use Rattle.simulation.specs.Relation.{Backs, Rel}
 use Rattle.simulation.specs.Rows.{pendings}
@@ -16,7 +19,7 @@ use Rattle.simulation.specs.Rows.{pendings}
 pub record AsksBind (k : Layout) (s : State) (c : Processor) (j : ℕ) (d : Did) : Type 0 where
   pub symbol : Symbol
   pub unsettled : steps.own s j ≡ Some (link symbol None)
-  pub asks : d ≡ did c (Cpu.Bind (base_of k s.core.here.host + j))
+  pub asks : d ≡ did c (events.Bind (base_of k s.core.here.host + j))
 
 -- a return to pending calls: the processor comes to address 0
 pub record AsksPending (k : Layout) (s : State) (c : Processor) (d : Did) : Type 0 where
@@ -59,10 +62,10 @@ Asks ls k s c (Push r) d = ⊥
 Asks ls k s c (Pop r) d = ⊥
 Asks ls k s c (Out r) d = ⊥
 Asks ls k s c (In r) d = ⊥
-Asks ls k s c (Open r j global) d = AsksByName ls s c j (λ w. Cpu.Open w r global) d
-Asks ls k s c (Find r a j) d = AsksByName ls s c j (λ w. Cpu.Find r a w) d
-Asks ls k s c (Close r) d = d ≡ Cpu.asks c (Cpu.Close r)
-Asks ls k s c (End r) d = d ≡ Cpu.asks c (Cpu.End r)
+Asks ls k s c (Open r j global) d = AsksByName ls s c j (λ w. events.Open w r global) d
+Asks ls k s c (Find r a j) d = AsksByName ls s c j (λ w. events.Find r a w) d
+Asks ls k s c (Close r) d = d ≡ Cpu.asks c (events.Close r)
+Asks ls k s c (End r) d = d ≡ Cpu.asks c (events.End r)
 
 -- a step has no meaning; or the processor makes it alone, and the states stand for the same again; or it asks the loader
 pub data Turn (k : Layout) (ls : List Library) (m : Room) (s : State) (c : Processor) : Type 0 where
