@@ -5,7 +5,7 @@ ghost use Rattle.std.specs.Prelude.{◌≡◌, Ok, Err, MatchResult};
 ghost use Rattle.text.specs.Readers.{words};
 ghost use Rattle.library.specs.Lines.{whole};
 
-pub mod operand;
+mod operand;
 mod words;
 
 pub use crate::operand::{Global, Inner, Must, Operand};

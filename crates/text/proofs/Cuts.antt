@@ -5,7 +5,7 @@ use Rattle.std.specs.Option.{unwrap_or}
 use Rattle.std.proofs.lemmas.List.{append-nil, append_assoc}
 use Rattle.std.proofs.lemmas.Bool.{lt-ltb, le-ltb, ltb-false, cases_lt}
 use Rattle.base.specs.Names.{Name}
-use Rattle.text.specs.Words.{cut, full}
+use Rattle.text.specs.Words.{cut}
 
 -- how many bytes come before the first c
 abbrev pub run : ℕ → List ℕ → ℕ
@@ -36,11 +36,3 @@ cut_run c w (x ∷ xs) = elim (eqb x c) as (λ v. cond v (w ∷ cut c [] xs) (cu
   | true ↦ (let e = append-nil w in let f = lt-ltb 0 (suc (length xs)) (omega arith) in rw (e, f) refl)
   | false ↦ (let e = cut_run c (w ++ (x ∷ [])) xs in let f = ltb_suc (run c xs) (length xs) in let g = append_assoc w (x ∷ []) (take (run c xs) xs) in let h : 1 + run c xs ≡ suc (run c xs) = omega arith in e ∙ rw (f, g, h) refl)
 ]
-
-pub full_more : (w : Name) (ws : List Name) → 0 < length w → full (w ∷ ws) ≡ w ∷ full ws
-full_more [] ws h = absurd (omega arith)
-full_more (x ∷ xs) ws h = refl
-
-pub full_less : (w : Name) (ws : List Name) → length w ≤ 0 → full (w ∷ ws) ≡ full ws
-full_less [] ws h = refl
-full_less (x ∷ xs) ws h = absurd (omega arith)

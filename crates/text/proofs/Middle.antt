@@ -6,11 +6,10 @@ use Rattle.std.proofs.lemmas.List.{take-take, drop-take, drop-drop}
 use Rattle.std.proofs.lemmas.List.Edits.{length-between}
 use Rattle.std.proofs.lemmas.Bool.{lt-ltb, le-ltb, cases_lt}
 use Rattle.base.specs.Choices.{opt}
-use Rattle.base.specs.Names.{Name}
-use Rattle.text.specs.Words.{cut, full}
+use Rattle.text.specs.Words.{cut}
 use Rattle.text.specs.Readers.{bytes}
 use Rattle.text.specs.declared.reader.Span.{Span}
-use Rattle.text.proofs.Cuts.{run, run_le, cut_run, full_more}
+use Rattle.text.proofs.Cuts.{run, run_le, cut_run}
 
 front : (t : List ℕ) (p q n : ℕ) → n ≤ q - p → take n (between p q t) ≡ between p (p + n) t
 front t p q n h = let e : p + n - p ≡ n = omega arith in rw (e) (take-take n (q - p) (drop p t) h)
@@ -51,6 +50,3 @@ mid_sizes t p q n a b h =
     (λ (g : p + n < q). let e = lt-ltb (p + n) q g in let i = length-between t (p + n + 1) q b in rw e (omega arith))
     (λ (g : q ≤ p + n). let e = le-ltb (p + n) q g in rw e (omega arith))
     (cases_lt (p + n) q)
-
-pub found_full : {fx ys zs : List Name} (t u : List ℕ) (s e : ℕ) → full ys ≡ fx → t ≡ u → ys ≡ between s e t ∷ zs → s < e → e ≤ length t → fx ≡ between s e u ∷ full zs
-found_full {zs = zs} t u s e f g r h l = let k = length-between t s e l in let o : 0 < length (between s e t) = omega arith in let m = full_more (between s e t) zs o in sym f ∙ ap full r ∙ m ∙ ap (λ v. between s e v ∷ full zs) g

@@ -1,7 +1,7 @@
 use Rattle.std.specs.Prelude.{None, Option, Some, cond}
 use Rattle.std.proofs.Common.{◌≡◌, ℕ, ◌+◌, ◌-◌, ◌*◌, ◌<◌, ◌≤◌, min, true, false, ◌&&◌, ltb, leb, [], ◌∷◌, length, get_or, drop, sym, refl, ap, ◌∙◌, ⊎_elim, arith}
 use Rattle.std.proofs.lemmas.List.{at_drop_more, at_drop_all}
-use Rattle.std.proofs.lemmas.Bool.{lt-leb, le-leb, le-ltb, and_left, and_right, and_from, cases_lt}
+use Rattle.std.proofs.lemmas.Bool.{lt-leb, le-ltb, and_left, and_right, cases_lt}
 use Rattle.std.specs.Char.{IsNotAsciiDigit}
 use Rattle.base.specs.Choices.{on_some, guard}
 use Rattle.base.specs.Names.{Name}
@@ -40,20 +40,13 @@ below_capped [] m h l = absurd (omega arith)
 below_capped (c ∷ cs) m h l = sym (capped_is (c ∷ cs) 0 0 m refl h)
 
 -- one byte of the word
-pub stops : (w : Name) (i n : ℕ) → i < length w → IsNotAsciiDigit (get_or w i 0) → capped n (drop i w) ≡ None
+stops : (w : Name) (i n : ℕ) → i < length w → IsNotAsciiDigit (get_or w i 0) → capped n (drop i w) ≡ None
 stops w i n l e = at_drop_more (capped n) w i 0 l ∙ ap (λ b. cond b (capped (sat n (get_or w i 0)) (drop (i + 1) w)) None)
     (⊎_elim (λ a. and_left (leb 48 (get_or w i 0)) (leb (get_or w i 0) 57) (lt-leb _ _ a)) (λ a. and_right (leb 48 (get_or w i 0)) (leb (get_or w i 0) 57) (lt-leb _ _ a)) e)
 
-pub goes_on : (w : Name) (i n : ℕ) → i < length w → 48 ≤ get_or w i 0 → get_or w i 0 ≤ 57 → capped (sat n (get_or w i 0)) (drop (i + 1) w) ≡ capped n (drop i w)
-goes_on w i n l a b = sym (at_drop_more (capped n) w i 0 l ∙ ap (λ b. cond b (capped (sat n (get_or w i 0)) (drop (i + 1) w)) None)
-    (and_from (leb 48 (get_or w i 0)) (leb (get_or w i 0) 57) (le-leb _ _ a) (le-leb _ _ b)))
-
--- the three ends of the loop, under its invariant
+-- the ends of the loop, under its invariant
 pub ends_none : (w : Name) (m i n : ℕ) → capped n (drop i w) ≡ capped 0 w → i < length w → m ≤ cap → IsNotAsciiDigit (get_or w i 0) → None ≡ below m w
 ends_none w m i n inv l h e = sym (below_capped w m h (omega arith) ∙ ap (under m) (sym inv ∙ stops w i n l e))
 
 pub ends_with : (w : Name) (m i n : ℕ) → capped n (drop i w) ≡ capped 0 w → length w ≤ i → m ≤ cap → (length w ≡ 0 → ⊥) → guard (ltb n m) (Some n) ≡ below m w
 ends_with w m i n inv l h e = sym (below_capped w m h (omega arith) ∙ ap (under m) (sym inv ∙ at_drop_all (capped n) w i l))
-
-pub goes_by : (w : Name) (i n r p d : ℕ) → r ≡ min (p + d) cap → p ≡ min (n * 10) cap → d ≡ get_or w i 0 - 48 → i < length w → 48 ≤ get_or w i 0 → get_or w i 0 ≤ 57 → capped n (drop i w) ≡ capped 0 w → capped r (drop (i + 1) w) ≡ capped 0 w
-goes_by w i n r p d e f g l a b inv = let s : r ≡ sat n (get_or w i 0) = cc in ap (λ k. capped k (drop (i + 1) w)) s ∙ goes_on w i n l a b ∙ inv
