@@ -11,7 +11,7 @@ use library::types::{Cell, CellNo, Instruction};
 use processor::Operation;
 
 // Where a cell lies, and what it is settled to.
-#[derive(Clone, Copy)]
+#[derive(Clone, Copy, PartialEq, Eq, Debug)]
 pub struct Site {
     // The address of its library's first cell.
     pub base: u64,
