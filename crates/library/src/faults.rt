@@ -51,6 +51,7 @@ pub enum ReadFault {
     TooFewWords,
 }
 
+// By hand: what `#[from]` writes has no contract.
 impl From<BadLine> for ReadFault {
     ghost from_gives = { λ e r. r ≡ Line e };
 
