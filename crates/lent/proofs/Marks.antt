@@ -1,7 +1,7 @@
 -- Numbers that come once each, and their marks.
 use Rattle.std.specs.Prelude.{cond, replicate}
 use Rattle.std.proofs.Common.{◌≡◌, ℕ, zero, suc, ◌+◌, ◌<◌, ◌≤◌, Bool, true, false, ◌||◌, eqb, List, [], ◌∷◌, ◌++◌, length, get_or, take, set, sym, refl, ap, ◌∙◌, subst, ⊎_elim, arith}
-use Rattle.std.proofs.lemmas.List.{get_or-set_same, get_or-set_other, length-set, get_or_push, get_or_append_left, take_more_set, length_push, length-take-le}
+use Rattle.std.proofs.lemmas.List.{get_or-set_same, get_or-set_other, length-set, get_or_push, get_or_append_left, take_more_set, length_push, length-take-le, get_or-take}
 use Rattle.std.proofs.lemmas.Bool.{cases_eq, eq-eqb, ne_eqb, cases_lt}
 use Rattle.base.specs.Lists.{has}
 use Rattle.lent.specs.Once.{is_mark, count_marks, Marked, Below}
@@ -73,3 +73,10 @@ has_past (x ∷ xs) n k b h =
     let l : x < n = b 0 (omega arith) in
     let e : eqb k x ≡ false = ne_eqb k x (λ q. omega arith) in
     ap (λ v. v || has k xs) e ∙ has_past xs n k (λ i q. b (suc i) (omega arith)) h
+
+-- there are no more numbers than marks
+pub taken_lt : (ms : List ℕ) (len taken : ℕ) → len ≡ count_marks ms → taken < len → taken < length ms
+taken_lt ms len taken e h = let c = count_le ms in omega arith
+
+pub below_at : (ws : List ℕ) (n m k : ℕ) → n ≤ length ws → Below (take n ws) m → k < n → get_or ws k 0 < m
+below_at ws n m k l b h = omega (arith, b k (omega (arith, length-take-le n ws l)), get_or-take n ws k 0 h)

@@ -65,7 +65,7 @@ impl<'a> Once<'a> {
     // The oldest number that wasn't taken yet.
     pub fn take(&mut self) -> Option<usize>
         ensures value { result ≡ slice_get (numbers self.old) self.old.taken }
-        ensures below { IfSome result (λ j. j < limit self.old) }
+        ensures below { IfSome result (λ j. (j < limit self.old) × (self.old.taken < limit self.old)) }
         ensures taken { self.new.taken ≡ cond (is_some result) (self.old.taken + 1) self.old.taken }
         ensures numbers { numbers self.new ≡ numbers self.old }
         ensures limit { limit self.new ≡ limit self.old }

@@ -20,7 +20,7 @@ pub struct Register(pub Octal);
 pub struct CellNo(pub u16);
 
 // The number of a library within its text.
-#[derive(Clone, Copy)]
+#[derive(Clone, Copy, PartialEq, Eq, Debug)]
 pub struct LibraryId(pub usize);
 
 // Instructions with three registers.

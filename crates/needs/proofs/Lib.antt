@@ -1,0 +1,2 @@
+-- Lemmas on closures by number.
+pub mod Reaching

@@ -1,0 +1,3 @@
+-- What belongs together, by numbers of libraries.
+pub mod Numbered
+pub mod Refusals
