@@ -1,2 +1,3 @@
 -- Lemmas on closures by number.
 pub mod Reaching
+pub mod ByNumber

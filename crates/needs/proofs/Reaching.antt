@@ -1,7 +1,7 @@
 -- A closure gathered number by number.
 use Rattle.std.specs.Prelude.{Bool, true, false, None, Option, Some, Ok, Err, Result, IsErrAnd, MatchResult, cond, slice_get}
 use Rattle.std.specs.Option.{option_map, option_flatten}
-use Rattle.std.proofs.Common.{◌≡◌, ℕ, zero, suc, ◌+◌, ◌-◌, ◌<◌, ◌≤◌, List, [], ◌∷◌, length, map, get_or, drop, sym, refl, ap, ◌∙◌, subst, arith}
+use Rattle.std.proofs.Common.{◌≡◌, ℕ, zero, suc, ◌+◌, ◌-◌, ◌<◌, ◌≤◌, List, [], ◌∷◌, length, map, drop, sym, refl, ap, ◌∙◌, subst, arith}
 use Rattle.std.proofs.lemmas.List.{at_drop_all, length-map}
 use Rattle.std.proofs.lemmas.Option.{same_Some, none-some, slice_get-get_or, slice_get-map}
 use Rattle.base.specs.Choices.{opt, on_some}

@@ -1,6 +1,9 @@
 -- The closure of a library under needs, by numbers of libraries.
-use Rattle.std.specs.Prelude.{ℕ, zero, suc, ◌+◌, List, [], ◌∷◌, map, length, None, Option, Some, slice_get}
+use Rattle.std.specs.Prelude.{◌≡◌, ℕ, zero, suc, ◌+◌, List, [], ◌∷◌, map, length, Option, Some, slice_get}
+use Rattle.std.specs.Option.{option_map}
 use Rattle.base.specs.Choices.{opt, on_some}
+use Rattle.base.specs.Names.{Name}
+use Rattle.links.specs.Closure.{closure}
 use Rattle.library.specs.Library.{Library}
 use Rattle.libraries.specs.Looks.{number_of}
 use Rattle.lent.specs.Once.{joined}
@@ -26,3 +29,11 @@ reach (suc n) f h seen = opt (slice_get seen h) (Some seen) (λ j. on_some (fold
 -- a library and all that it reaches by needs; none where that is not all in the text
 abbrev pub closure_numbers : List Library → ℕ → Option (List ℕ)
 closure_numbers ls i = reach (length ls) (needed ls) 0 (i ∷ [])
+
+-- the name of library i
+abbrev pub name_at : List Library → ℕ → Name
+name_at ls i = opt (slice_get ls i) [] (λ l. l.name)
+
+-- the closure by names is the closure by numbers
+abbrev pub ClosureByNumber : Type 0
+ClosureByNumber = (ls : List Library) (x : Name) → closure ls x ≡ on_some (number_of ls x) (λ i. option_map (map (name_at ls)) (closure_numbers ls i))

@@ -1,6 +1,5 @@
 -- Why there is no closure.
-use Rattle.std.specs.Prelude.{◌≡◌, ℕ, ◌<◌, ◌≤◌, List, length, None, Some, slice_get}
-use Rattle.base.specs.Choices.{on_some}
+use Rattle.std.specs.Prelude.{◌≡◌, ℕ, ◌<◌, ◌≤◌, List, length, None, Some}
 use Rattle.base.specs.Names.{Name}
 use Rattle.library.specs.Library.{Library}
 use Rattle.libraries.specs.Looks.{number_of, part_at}

@@ -2,7 +2,7 @@ ghost use Rattle.std.specs.Prelude.{◌≡◌, ℕ, ◌<◌, ◌≤◌, min, [],
 ghost use Rattle.std.specs.Option.{option_map, option_flatten};
 ghost use Rattle.libraries.specs.Looks.{library_no};
 ghost use Rattle.lent.specs.Numbers.{numbers, limit};
-ghost use Rattle.needs.specs.Numbered.{needed, fold_some, joined_some, closure_numbers};
+ghost use Rattle.needs.specs.Numbered.{needed, fold_some, joined_some, closure_numbers, ClosureByNumber};
 ghost use Rattle.needs.specs.Refusals.{IsMissing, Refused};
 
 use crate::faults::{MissingLibrary, NotGathered};
@@ -67,4 +67,11 @@ pub fn gather<'a, L: Libraries>(
         gather_needs(libraries, LibraryId(library), &mut gathered)?;
     }
     Ok(gathered)
+}
+
+// The closure by numbers is the closure by names.
+pub fn closure_by_number() -> u8
+    ensures { ClosureByNumber }
+{
+    0
 }

@@ -1,11 +1,10 @@
 use Rattle.std.proofs.Common.{◌≡◌, ◌<◌, ◌+◌, ◌-◌, length, sym, ap, ◌∙◌, refl, arith}
-use Rattle.std.specs.Prelude.{Some, Result, MatchResult, cond, min, slice_get}
-use Rattle.lent.specs.Once.{joined}
+use Rattle.std.specs.Prelude.{Some, min}
 use Rattle.lent.specs.Numbers.{numbers}
 use Rattle.needs.specs.Numbered.{needed, reach, fold_some, joined_some}
 use Rattle.needs.specs.Refusals.{Refused}
 use Rattle.needs.specs.declared.faults.NotGathered.TheVariants.{Missing}
-use Rattle.needs.proofs.Reaching.{reach_start, reach_on, reach_stop, reach_end, fault_is}
+use Rattle.needs.proofs.Reaching.{reach_on, reach_stop, reach_end, fault_is}
 use Rattle.needs.proofs.closure.gather.Goals as goal
 
 pub loop-library-smaller : goal.loop-library-smaller

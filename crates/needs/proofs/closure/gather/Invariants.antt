@@ -1,4 +1,4 @@
-use Rattle.std.proofs.Common.{◌≡◌, ◌-◌, ◌≤◌, length}
+use Rattle.std.proofs.Common.{◌≡◌, ◌-◌, length}
 use Rattle.lent.specs.Numbers.{numbers, limit}
 use Rattle.needs.specs.Numbered.{needed, reach, closure_numbers}
 use Rattle.needs.proofs.closure.gather.Given as goal

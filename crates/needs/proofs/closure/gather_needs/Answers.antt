@@ -1,5 +1,5 @@
-use Rattle.std.proofs.Common.{◌≡◌, ◌<◌, length, sym, ap, ◌∙◌, arith}
-use Rattle.std.specs.Prelude.{cond, is_ok}
+use Rattle.std.proofs.Common.{◌<◌, length, ap, ◌∙◌, arith}
+use Rattle.std.specs.Prelude.{cond}
 use Rattle.lent.specs.Once.{joined}
 use Rattle.lent.specs.Numbers.{numbers}
 use Rattle.needs.specs.Numbered.{needed}
