@@ -4,6 +4,7 @@
 pub mod index;
 pub mod once;
 pub mod queue;
+pub mod refusals;
 pub mod table;
 #[cfg(test)]
 mod tests;

@@ -1,5 +1,6 @@
 use crate::index::{Index, bucket};
 use crate::queue::Queue;
+use crate::refusals::{Full, NoSuchRow};
 use crate::table::Table;
 
 #[test]
@@ -11,7 +12,10 @@ fn table_fills_up_and_shrinks(rt: HostRuntime) {
     let word = pairs.get(0, 1);
     pairs.truncate(0);
     assert!(rt;
-        pushed == [true, false] && set == [true, false] && word == Some(6) && pairs.row(0).is_none()
+        pushed == [Ok(()), Err(Full)]
+            && set == [Ok(()), Err(NoSuchRow)]
+            && word == Some(6)
+            && pairs.row(0).is_none()
     );
 }
 
@@ -22,7 +26,9 @@ fn queue_is_used_up(rt: HostRuntime) {
     let pushed = [queue.push(7), queue.push(8)];
     let popped = [queue.pop(), queue.pop(), queue.pop()];
     let refused = queue.push(9);
-    assert!(rt; pushed == [true, true] && popped == [Some(7), Some(8), None] && !refused);
+    assert!(rt;
+        pushed == [Ok(()), Ok(())] && popped == [Some(7), Some(8), None] && refused == Err(Full)
+    );
 }
 
 #[test]
@@ -37,5 +43,5 @@ fn bucket_has_newest_first(rt: HostRuntime) {
         index.insert(2, puts),
     ];
     let walk = [index.first(puts), index.older(1), index.older(0)];
-    assert!(rt; inserted == [true, true, false] && walk == [Some(1), Some(0), None]);
+    assert!(rt; inserted == [Ok(()), Ok(()), Err(Full)] && walk == [Some(1), Some(0), None]);
 }

@@ -3,8 +3,5 @@ use Rattle.lent.proofs.index.Index.older.Goals as goal
 use Rattle.lent.proofs.Newest.{is_newest}
 use Rattle.lent.specs.Indexes.{newest}
 
-pub returns : goal.returns
-returns c = record {
-  value = c.entry_at.ensures;
-  newest = λ bs n h x l e. simp c.entry_at.ensures (is_newest bs h c.args.k _ (x.by_entry c.args.k l ∙ ap (λ g. newest bs g c.args.k) e));
-}
+pub returns-clause-newest : goal.returns-clause-newest
+returns-clause-newest c = λ bs n h x l e. simp c.entry_at.ensures (is_newest bs h c.args.k _ (x.by_entry c.args.k l ∙ ap (λ g. newest bs g c.args.k) e))

@@ -1,5 +1,5 @@
 use Rattle.std.proofs.Common.{◌≡◌, ◌<◌, drop}
-use Rattle.lent.proofs.index.methods.bucket.Given as goal
+use Rattle.lent.proofs.index.bucket.Given as goal
 use Rattle.lent.specs.Indexes.{hash}
 
 abbrev pub invariant-loop-byte : goal.invariant-loop-byte

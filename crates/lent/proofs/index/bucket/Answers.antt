@@ -1,6 +1,6 @@
 use Rattle.std.proofs.Common.{◌%◌, sym, ap, ◌∙◌, mod-lt, arith}
 use Rattle.base.proofs.Choices.{cond_false}
-use Rattle.lent.proofs.index.methods.bucket.Goals as goal
+use Rattle.lent.proofs.index.bucket.Goals as goal
 use Rattle.lent.proofs.Newest.{hash_step, hash_end}
 use Rattle.std.proofs.lemmas.Bool.{ne_eqb}
 
