@@ -6,7 +6,7 @@ use Rattle.std.proofs.lemmas.Bool.{cases_eq, eq-eqb, ne_eqb, cases_lt}
 use Rattle.base.specs.Lists.{has}
 use Rattle.lent.specs.Once.{is_mark, count_marks, Marked, Below}
 
-count_le : (ms : List ℕ) → count_marks ms ≤ length ms
+pub count_le : (ms : List ℕ) → count_marks ms ≤ length ms
 count_le [] = omega arith
 count_le (x ∷ xs) = let h = count_le xs in elim (is_mark x) as (λ v. cond v 1 0 + count_marks xs ≤ suc (length xs)) [ true ↦ omega arith | false ↦ omega arith ]
 

@@ -1,3 +1,4 @@
 -- Lemmas on closures by number.
 pub mod Reaching
 pub mod ByNumber
+pub mod Rows

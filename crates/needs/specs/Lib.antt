@@ -1,3 +1,5 @@
 -- What belongs together, by numbers of libraries.
 pub mod Numbered
 pub mod Refusals
+pub mod Visits
+pub mod Walks
