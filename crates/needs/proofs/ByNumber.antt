@@ -18,10 +18,11 @@ use Rattle.links.specs.Closure.{news, breadth, closure}
 use Rattle.links.specs.Laws.{Found}
 use Rattle.links.proofs.Closure.{news_fresh}
 use Rattle.links.proofs.Cost.{once_count}
+use Rattle.needs.specs.Standing.{First, Alike}
 use Rattle.needs.specs.Numbered.{needed, fold_some, joined_some, reach, closure_numbers, name_at, ClosureByNumber}
 
 -- the library that a name finds, and its number
-number_is : (ls : List Library) (x : Name) (k : ℕ) → number_of ls x ≡ Some k → (l : Library) × (slice_get ls k ≡ Some l) × (find_library ls x ≡ Some l) × (l.name ≡ x)
+pub number_is : (ls : List Library) (x : Name) (k : ℕ) → number_of ls x ≡ Some k → (l : Library) × (slice_get ls k ≡ Some l) × (find_library ls x ≡ Some l) × (l.name ≡ x)
 number_is [] x k e = absurd (none-some _ e)
 number_is (l ∷ ls) x k e = go (same l.name x) refl (number_of ls x) (number_is ls x) e
   where
@@ -30,7 +31,7 @@ number_is (l ∷ ls) x k e = go (same l.name x) refl (number_of ls x) (number_is
     go false q None h p = absurd (none-some _ p)
     go false q (Some j) h p = let z : suc j ≡ k = same_Some _ _ p in let m = h j refl in (m.0, ap (slice_get (l ∷ ls)) (sym z) ∙ m.1, m.2, m.3)
 
-number_none : (ls : List Library) (x : Name) → number_of ls x ≡ None → find_library ls x ≡ None
+pub number_none : (ls : List Library) (x : Name) → number_of ls x ≡ None → find_library ls x ≡ None
 number_none [] x e = refl
 number_none (l ∷ ls) x e = go (same l.name x) (number_of ls x) (number_none ls x) e
   where
@@ -39,18 +40,14 @@ number_none (l ∷ ls) x e = go (same l.name x) (number_of ls x) (number_none ls
     go false None h p = h refl
     go false (Some j) h p = absurd (none-some _ (sym p))
 
--- library k is the first of its name
-abbrev First : List Library → ℕ → Type 0
-First ls k = number_of ls (name_at ls k) ≡ Some k
-
-number_name : (ls : List Library) (x : Name) (k : ℕ) → number_of ls x ≡ Some k → name_at ls k ≡ x
+pub number_name : (ls : List Library) (x : Name) (k : ℕ) → number_of ls x ≡ Some k → name_at ls k ≡ x
 number_name ls x k e = let n = number_is ls x k e in ap (λ o. opt o [] (λ l. l.name)) n.1 ∙ n.3
 
-number_first : (ls : List Library) (x : Name) (k : ℕ) → number_of ls x ≡ Some k → First ls k
+pub number_first : (ls : List Library) (x : Name) (k : ℕ) → number_of ls x ≡ Some k → First ls k
 number_first ls x k e = ap (number_of ls) (number_name ls x k e) ∙ e
 
 -- a name is among names of first libraries where its number is among theirs
-has_among : (ls : List Library) (x : Name) (j : ℕ) (xs : List ℕ) → number_of ls x ≡ Some j → AllByRecursion (First ls) xs → has j xs ≡ among x (map (name_at ls) xs)
+pub has_among : (ls : List Library) (x : Name) (j : ℕ) (xs : List ℕ) → number_of ls x ≡ Some j → AllByRecursion (First ls) xs → has j xs ≡ among x (map (name_at ls) xs)
 has_among ls x j [] e f = refl
 has_among ls x j (k ∷ xs) e f = ⊎_elim
     (λ (q : j ≡ k). let n : name_at ls k ≡ x = ap (name_at ls) (sym q) ∙ number_name ls x j e in
@@ -63,7 +60,7 @@ has_among ls x j (k ∷ xs) e f = ⊎_elim
     apart q false s = s
 
 -- a name without a number is among none
-missing_among : (ls : List Library) (x : Name) (xs : List ℕ) → number_of ls x ≡ None → AllByRecursion (First ls) xs → among x (map (name_at ls) xs) ≡ false
+pub missing_among : (ls : List Library) (x : Name) (xs : List ℕ) → number_of ls x ≡ None → AllByRecursion (First ls) xs → among x (map (name_at ls) xs) ≡ false
 missing_among ls x [] e f = refl
 missing_among ls x (k ∷ xs) e f = ap (λ b. b || among x (map (name_at ls) xs)) (apart (same x (name_at ls k)) refl) ∙ missing_among ls x xs e f.1
   where
@@ -78,10 +75,6 @@ Gathered ls ns xs seen = (zs : List ℕ) × (fold_some joined_some (map (number_
 abbrev Lacks : List Library → List Name → List ℕ → List Name → Type 0
 Lacks ls ns xs seen = (y : Name) × (fold_some joined_some (map (number_of ls) ns) xs ≡ None) × (number_of ls y ≡ None) × (among y (news ns seen) ≡ true)
 
--- the same names
-abbrev Alike : List Library → List ℕ → List Name → Type 0
-Alike ls xs seen = (x : Name) → among x seen ≡ among x (map (name_at ls) xs)
-
 or_swap : (a b c : Bool) → a || (b || c) ≡ b || (a || c)
 or_swap true true c = refl
 or_swap true false c = refl
@@ -95,7 +88,7 @@ among-push : (ls : List Library) (y : Name) (j : ℕ) (xs : List ℕ) → among 
 among-push ls y j [] = refl
 among-push ls y j (k ∷ xs) = ap (λ b. same y (name_at ls k) || b) (among-push ls y j xs) ∙ or_swap (same y (name_at ls k)) (same y (name_at ls j)) (among y (map (name_at ls) xs))
 
-alike_push : (ls : List Library) (x : Name) (j : ℕ) (xs : List ℕ) (seen : List Name) → number_of ls x ≡ Some j → Alike ls xs seen → Alike ls (xs ++ j ∷ []) (x ∷ seen)
+pub alike_push : (ls : List Library) (x : Name) (j : ℕ) (xs : List ℕ) (seen : List Name) → number_of ls x ≡ Some j → Alike ls xs seen → Alike ls (xs ++ j ∷ []) (x ∷ seen)
 alike_push ls x j xs seen e a y = ap (λ b. same y x || b) (a y) ∙ ap (λ z. same y z || among y (map (name_at ls) xs)) (sym (number_name ls x j e)) ∙ sym (among-push ls y j xs)
 
 gather : (ls : List Library) (ns : List Name) (xs : List ℕ) (seen : List Name) → AllByRecursion (First ls) xs → Alike ls xs seen → Gathered ls ns xs seen ⊎ Lacks ls ns xs seen
@@ -158,18 +151,18 @@ found_all : (ls : List Library) (xs : List ℕ) → AllByRecursion (First ls) xs
 found_all ls [] f = tt
 found_all ls (k ∷ xs) f = let n = number_is ls (name_at ls k) k f.0 in ((n.0, n.2), found_all ls xs f.1)
 
-taken_drop : {X : Type 0} (xs : List X) (h : ℕ) (x : X) → slice_get xs h ≡ Some x → drop h xs ≡ x ∷ drop (h + 1) xs
+pub taken_drop : {X : Type 0} (xs : List X) (h : ℕ) (x : X) → slice_get xs h ≡ Some x → drop h xs ≡ x ∷ drop (h + 1) xs
 taken_drop [] h x e = absurd (none-some _ e)
 taken_drop (y ∷ ys) zero x e = ap (λ z. z ∷ ys) (same_Some _ _ e)
 taken_drop (y ∷ ys) (suc h) x e = let q : suc h + 1 ≡ suc (h + 1) = omega arith in rw q (taken_drop ys h x e)
 
-drop_past : {X : Type 0} (xs : List X) (h : ℕ) → slice_get xs h ≡ None → drop h xs ≡ []
+pub drop_past : {X : Type 0} (xs : List X) (h : ℕ) → slice_get xs h ≡ None → drop h xs ≡ []
 drop_past [] zero e = refl
 drop_past [] (suc h) e = refl
 drop_past (y ∷ ys) zero e = absurd (none-some _ (sym e))
 drop_past (y ∷ ys) (suc h) e = drop_past ys h e
 
-alike_self : (ls : List Library) (xs : List ℕ) → Alike ls xs (map (name_at ls) xs)
+pub alike_self : (ls : List Library) (xs : List ℕ) → Alike ls xs (map (name_at ls) xs)
 alike_self ls xs y = refl
 
 -- no more are gathered than the text has

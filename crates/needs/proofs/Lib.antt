@@ -2,3 +2,4 @@
 pub mod Reaching
 pub mod ByNumber
 pub mod Rows
+pub mod Walking

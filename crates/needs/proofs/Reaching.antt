@@ -10,6 +10,7 @@ use Rattle.library.specs.Library.{Library}
 use Rattle.library.specs.declared.types.LibraryId.{LibraryId}
 use Rattle.libraries.specs.Looks.{library_no, number_of, part_at}
 use Rattle.lent.specs.Once.{joined}
+use Rattle.needs.specs.Walks.{needs_at}
 use Rattle.needs.specs.Refusals.{IsMissing}
 use Rattle.needs.specs.Numbered.{needed, fold_some, joined_some, reach}
 
@@ -93,3 +94,23 @@ reach_start l h i f xs e d = let z : l - h ≡ l = omega arith in ap (λ n. reac
 pub fault_is : {T E : Type 0} (r : Result T E) (P : T → Type 0) (Q : E → Type 0) (e : E) → IsErrAnd r (λ x. x ≡ e) → Q e → MatchResult r P Q
 fault_is (Ok x) P Q e h q = absurd h
 fault_is (Err x) P Q e h q = subst Q (sym h) q
+
+-- a library's needs by name and by number are as many
+pub needs_count : (ls : List Library) (n : ℕ) → length (needed ls n) ≡ length (needs_at ls n)
+needs_count ls n = go (slice_get ls n)
+  where
+    go : (o : Option Library) → length (opt o [] (λ l. map (number_of ls) l.needs)) ≡ length (opt o [] (λ l. l.needs))
+    go None = refl
+    go (Some l) = length-map l.needs (number_of ls)
+
+-- the name of a need that was found
+pub need_name : (ls : List Library) (n i j : ℕ) → slice_get (needed ls n) i ≡ Some (Some j) → (x : Name) × (slice_get (needs_at ls n) i ≡ Some x) × (number_of ls x ≡ Some j)
+need_name ls n i j e = go (slice_get ls n) e
+  where
+    at : (l : Library) (o : Option Name) → slice_get l.needs i ≡ o → option_map (number_of ls) o ≡ Some (Some j) → (x : Name) × (slice_get l.needs i ≡ Some x) × (number_of ls x ≡ Some j)
+    at l None q h = absurd (none-some _ h)
+    at l (Some x) q h = (x, q, same_Some _ _ h)
+
+    go : (o : Option Library) → slice_get (opt o [] (λ l. map (number_of ls) l.needs)) i ≡ Some (Some j) → (x : Name) × (slice_get (opt o [] (λ l. l.needs)) i ≡ Some x) × (number_of ls x ≡ Some j)
+    go None h = absurd (none-some _ h)
+    go (Some l) h = at l (slice_get l.needs i) refl (sym (slice_get-map (number_of ls) l.needs i) ∙ h)

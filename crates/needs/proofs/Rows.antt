@@ -1,14 +1,14 @@
 -- Rows of a walk, the last one first.
 use Rattle.std.specs.Prelude.{None, Some, cond, slice_get, slice_set, slice_index, nat_le, nat_lt, true, ◌&&◌, Bool}
 use Rattle.std.proofs.Common.{◌≡◌, ℕ, zero, suc, ◌+◌, ◌-◌, ◌*◌, ◌<◌, ◌≤◌, List, [], ◌∷◌, ◌++◌, map, length, take, sym, refl, ap, ◌∙◌, arith}
-use Rattle.std.proofs.lemmas.List.{length-take-le, map-append, map-set, take-map}
+use Rattle.std.proofs.lemmas.List.{length-map, length_push, length-take-le, map-append, map-set, take-map}
 use Rattle.std.proofs.lemmas.Bool.{le-leb, lt-ltb, and_from}
 use Rattle.std.proofs.lemmas.Option.{same_Some, none-some}
 use Rattle.lent.specs.declared.once.Once.{Once}
 use Rattle.lent.specs.Numbers.{numbers, limit}
 use Rattle.lent.specs.declared.table.Table.{Table}
 use Rattle.lent.specs.Tables.{rows_in}
-use Rattle.needs.specs.Walks.{entered_in, entered_at, column}
+use Rattle.needs.specs.Walks.{Entered, entered_in, entered_at, column}
 use Rattle.lent.proofs.Rows.{rows_len}
 
 pub last_is : {X : Type 0} (xs : List X) (n : ℕ) (x : X) → length xs ≡ suc n → slice_get xs n ≡ Some x → xs ≡ take n xs ++ x ∷ []
@@ -53,3 +53,14 @@ entered_take t u m f = ap (map entered_at) f ∙ sym (take-map entered_at m (row
 
 pub column_push : (t u : Table 1) (i : ℕ) (b : Bool) → b ≡ true → rows_in 1 u ≡ cond b (rows_in 1 t ++ (i ∷ []) ∷ []) (rows_in 1 t) → column u ≡ column t ++ i ∷ []
 column_push t u i b e f = ap (map (λ r. slice_index r 0)) (f ∙ ap (λ v. cond v (rows_in 1 t ++ (i ∷ []) ∷ []) (rows_in 1 t)) e) ∙ map-append (λ r. slice_index r 0) (rows_in 1 t) ((i ∷ []) ∷ [])
+
+pub entered_count : (t : Table 2) → length (entered_in t) ≡ t.len
+entered_count t = length-map (rows_in 2 t) entered_at ∙ rows_count 2 t
+
+-- a table that has a last row has a row
+pub last_some : (t : Table 2) (es : List Entered) (e : Entered) → entered_in t ≡ es ++ e ∷ [] → 0 < t.len
+last_some t es e q = omega (arith, entered_count t, ap length q, length_push es e)
+
+-- the rows below the last one
+pub below_last : (t : Table 2) → 0 < t.len → length (take (t.len - 1) (entered_in t)) ≡ t.len - 1
+below_last t h = length-take-le (t.len - 1) (entered_in t) (omega (arith, entered_count t))

@@ -17,3 +17,9 @@ abbrev pub Refused : List Library → ℕ → ℕ → NotGathered → Type 0
 Refused ls i n (Missing m) = (closure_numbers ls i ≡ None) × IsMissing ls m
 Refused ls i n NoSuchLibrary = length ls ≤ i
 Refused ls i n TooFewWords = n < length ls
+
+-- what keeps the libraries from being ordered that library i begins with, where n can be held
+abbrev pub Unordered : List Library → ℕ → ℕ → NotGathered → Type 0
+Unordered ls i n NoSuchLibrary = length ls ≤ i
+Unordered ls i n (Missing m) = IsMissing ls m
+Unordered ls i n TooFewWords = n < length ls

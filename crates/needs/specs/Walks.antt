@@ -43,3 +43,7 @@ tasks_of ls (e ∷ es) ts = tasks_of ls es (tasks_for ls e ++ ts)
 abbrev pub ahead : ℕ → List ℕ → List Library → ℕ
 ahead k seen [] = 0
 ahead k seen (l ∷ ls) = cond (has k seen) 0 (suc (length l.needs)) + ahead (suc k) seen ls
+
+-- one more need was looked at
+abbrev pub looked_on : Entered → Entered
+looked_on e = record { library = e.library; looked = e.looked + 1 }

@@ -11,14 +11,18 @@ use libraries::Libraries;
 use library::types::LibraryId;
 
 // The number of need j of a library.
-fn need_number<L: Libraries>(libraries: &L, library: LibraryId, need: usize) -> Option<LibraryId>
+pub(crate) fn need_number<L: Libraries>(
+    libraries: &L,
+    library: LibraryId,
+    need: usize,
+) -> Option<LibraryId>
     ensures { option_map library_no result ≡ option_flatten (slice_get (needed (L.libs libraries.now) library.0) need) }
 {
     libraries.find(libraries.need(library, need)?)
 }
 
 // How many lines `needs` a library has.
-fn count_needs<L: Libraries>(libraries: &L, library: LibraryId) -> usize
+pub(crate) fn count_needs<L: Libraries>(libraries: &L, library: LibraryId) -> usize
     ensures { result ≡ length (needed (L.libs libraries.now) library.0) }
 {
     libraries.sizes(library).map_or(0, |sizes| sizes.needs)

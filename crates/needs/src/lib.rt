@@ -3,4 +3,7 @@
 
 pub mod closure;
 pub mod faults;
+pub mod order;
 mod walk;
+
+pub use walk::WalkWords;

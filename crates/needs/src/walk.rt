@@ -23,13 +23,55 @@ pub(crate) struct Visit {
     pub(crate) looked: usize,
 }
 
+// Words lent for a walk: two for each library that is entered, and one each for those that are seen, their marks, and those that are left.
+#[derive(Drop)]
+pub struct WalkWords<'a> {
+    pub entered: &'a mut [u64],
+    pub seen: &'a mut [u64],
+    pub marks: &'a mut [u64],
+    pub left: &'a mut [u64],
+}
+
+impl<'a> WalkWords<'a> {
+    ghost use Rattle.needs.specs.Visits.{walk_room};
+
+    // How many libraries there is room for.
+    pub(crate) fn room(&self) -> usize
+        ensures { result ≡ walk_room self.now }
+    {
+        let marked = self.seen.len().min(self.marks.len());
+        (self.entered.len() / 2).min(marked.min(self.left.len()))
+    }
+}
+
 impl<'a> Walk<'a> {
     ghost use Rattle.std.specs.Prelude.{ℕ, ◌-◌, ◌<◌, List, [], ◌∷◌, ◌++◌, false, take, MatchOption, Some, None, map, cond, slice_set, ◌^◌};
     ghost use Rattle.base.specs.Lists.{has};
     ghost use Rattle.lent.specs.Numbers.{numbers, limit};
     ghost use Rattle.lent.specs.Once.{joined};
     ghost use Rattle.needs.specs.Walks.{entered_in, column};
-    ghost use Rattle.needs.specs.Visits.{visit_of};
+    ghost use Rattle.needs.specs.Visits.{visit_of, walk_room};
+
+    // Nothing is entered yet; of so many libraries.
+    pub(crate) fn new(words: WalkWords<'a>, count: usize) -> Walk<'a>
+        requires { count ≤ walk_room words }
+        ensures entered { entered_in result.entered ≡ [] }
+        ensures seen { numbers result.seen ≡ [] }
+        ensures limit { limit result.seen ≡ count }
+        ensures left { column result.left ≡ [] }
+    {
+        let WalkWords {
+            entered,
+            seen,
+            marks,
+            left,
+        } = words;
+        Walk {
+            entered: Table::new(entered),
+            seen: Once::new(seen, &mut marks[..count]),
+            left: Table::new(left),
+        }
+    }
 
     // The library that was entered last.
     pub(crate) fn last(&self) -> Option<Visit>
