@@ -2,3 +2,4 @@
 pub mod Newest
 mod Queues
 pub mod Rows
+pub mod Marks

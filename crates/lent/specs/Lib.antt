@@ -1,4 +1,6 @@
 -- What tables, queues and indexes in lent words hold.
 pub mod Indexes
+pub mod Numbers
+pub mod Once
 pub mod Queues
 pub mod Tables

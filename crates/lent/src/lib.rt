@@ -2,6 +2,7 @@
 #![tactic(auto)]
 
 pub mod index;
+pub mod once;
 pub mod queue;
 pub mod refusals;
 pub mod table;

@@ -1,10 +1,20 @@
 -- Parts of the libraries, one by one.
 use Rattle.std.specs.Option.{option_map}
-use Rattle.std.specs.Prelude.{◌≡◌, true, false, ℕ, List, length, Option, slice_get}
+use Rattle.std.specs.Prelude.{◌≡◌, true, false, ℕ, suc, List, [], ◌∷◌, length, None, Option, Some, cond, slice_get}
 use Rattle.base.specs.Choices.{on_some, opt}
 use Rattle.base.specs.Names.{Name, same}
 use Rattle.library.specs.Library.{Library}
+use Rattle.library.specs.declared.types.LibraryId.{LibraryId}
 use Rattle.libraries.specs.declared.sizes.Sizes.{Sizes}
+
+-- the number of a library
+abbrev pub library_no : LibraryId → ℕ
+library_no k = k.0
+
+-- the number of the first library of a name
+abbrev pub number_of : List Library → Name → Option ℕ
+number_of [] x = None
+number_of (l ∷ ls) x = cond (same l.name x) (Some 0) (option_map suc (number_of ls x))
 
 -- what f says of library i
 abbrev pub field_at : {X : Type 0} → List Library → ℕ → (Library → X) → Option X

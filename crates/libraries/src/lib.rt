@@ -1,11 +1,11 @@
 // The libraries of a text as all that links them sees them: one by one, by number.
 #![tactic(auto)]
 
-ghost use Rattle.std.specs.Prelude.{◌≡◌, List, length, None, MatchOption};
+ghost use Rattle.std.specs.Prelude.{◌≡◌, List, length};
 ghost use Rattle.std.specs.Option.{option_map};
-ghost use Rattle.library.specs.Library.{Library, find_library};
+ghost use Rattle.library.specs.Library.{Library};
 ghost use Rattle.library.specs.Views.{cell_no, definition_of, cell_of};
-ghost use Rattle.libraries.specs.Looks.{HasName, part_at, field_at, sizes_of};
+ghost use Rattle.libraries.specs.Looks.{library_no, number_of, part_at, field_at, sizes_of};
 
 use library::types::{Cell, CellNo, Definition, LibraryId};
 
@@ -21,9 +21,9 @@ pub trait Libraries<'t> {
     fn len(&self) -> usize
         ensures { result ≡ length (libs self.now) };
 
-    // The library of a name.
+    // The first library of a name.
     fn find(&self, name: &[u8]) -> Option<LibraryId>
-        ensures { MatchOption result (find_library (libs self.now) name.now ≡ None) (λ k. HasName (libs self.now) k.0 name.now) };
+        ensures { option_map library_no result ≡ number_of (libs self.now) name.now };
 
     // The name of a library.
     fn name(&self, id: LibraryId) -> Option<&'t [u8]>
