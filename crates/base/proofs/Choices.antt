@@ -2,13 +2,8 @@
 use Rattle.std.specs.Result.{result_ok}
 use Rattle.std.specs.Prelude.{None, Option, Some, cond}
 use Rattle.std.proofs.Common.{◌≡◌, ℕ, Bool, true, false, Ok, Err, Result, refl, ap, arith}
-use Rattle.base.specs.Choices.{opt, on_some, guard, WhereSome, on_ok, WhereOk}
-
-pub cond_true : {A : Type 0} (b : Bool) (x y : A) → b ≡ true → cond b x y ≡ x
-cond_true b x y e = rw e
-
-pub cond_false : {A : Type 0} (b : Bool) (x y : A) → b ≡ false → cond b x y ≡ y
-cond_false b x y e = rw e
+use Rattle.base.specs.Choices.{opt, on_some, guard, on_ok}
+use Rattle.std.specs.Result.{IfOk}
 
 pub opt_none : {A C : Type 0} (o : Option A) (c : C) (f : A → C) → o ≡ None → opt o c f ≡ c
 opt_none o c f e = rw e
@@ -26,11 +21,11 @@ guard_inv true x y e = (refl, cc)
 guard_inv false x y e = let z : ◌≡◌ {A = ℕ} 0 1 = cc in absurd (omega arith)
 
 -- a statement of the value of a result, one choice after the other
-pub cond_ok : {A E : Type 0} (P : A → Type 0) (b : Bool) (r q : Result A E) → WhereOk P r → WhereOk P q → WhereOk P (cond b r q)
+pub cond_ok : {A E : Type 0} (P : A → Type 0) (b : Bool) (r q : Result A E) → IfOk r P → IfOk q P → IfOk (cond b r q) P
 cond_ok P true r q x y = x
 cond_ok P false r q x y = y
 
-pub on_ok_if : {A C E : Type 0} (P : C → Type 0) (r : Result A E) (f : A → Result C E) → ((a : A) → r ≡ Ok a → WhereOk P (f a)) → WhereOk P (on_ok r f)
+pub on_ok_if : {A C E : Type 0} (P : C → Type 0) (r : Result A E) (f : A → Result C E) → ((a : A) → r ≡ Ok a → IfOk (f a) P) → IfOk (on_ok r f) P
 on_ok_if P (Ok a) f h = h a refl
 on_ok_if P (Err e) f h = tt
 

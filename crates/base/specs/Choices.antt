@@ -1,4 +1,5 @@
--- Choices by an option or by a result.
+-- Choices by an option or by a result. The option stands first, as in code: definitions in steps read in their order,
+-- which the library's `option_and_then` and `option_map_or` turn round.
 use Rattle.std.specs.Prelude.{Bool, true, false, Some, None, Option, Ok, Err, Result}
 
 -- what f makes of the value, or c where there is none
@@ -16,17 +17,7 @@ abbrev pub guard : {A : Type 0} → Bool → Option A → Option A
 guard true o = o
 guard false o = None
 
--- what holds of the value, where there is one
-abbrev pub WhereSome : {A : Type 0} → (A → Type 0) → Option A → Type 0
-WhereSome P None = Unit
-WhereSome P (Some x) = P x
-
 -- the next result, where this one is good
 abbrev pub on_ok : {A C E : Type 0} → Result A E → (A → Result C E) → Result C E
 on_ok (Ok x) f = f x
 on_ok (Err e) f = Err e
-
--- what holds of the value, where the result is good
-abbrev pub WhereOk : {A E : Type 0} → (A → Type 0) → Result A E → Type 0
-WhereOk P (Ok x) = P x
-WhereOk P (Err e) = Unit

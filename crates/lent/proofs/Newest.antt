@@ -1,9 +1,8 @@
 -- The newest entry of a bucket, and the words that have it.
 use Rattle.std.specs.Prelude.{cond}
-use Rattle.std.proofs.Common.{◌≡◌, ℕ, zero, suc, ◌+◌, ◌-◌, ◌*◌, ◌%◌, ◌<◌, ◌≤◌, true, false, eqb, ◌≢◌, List, [], ◌∷◌, ◌++◌, length, get_or, drop, set, sym, refl, ap, ◌∙◌, ⊎_elim, add-one, arith, below_more}
-use Rattle.base.specs.Names.{Name}
-use Rattle.lent.specs.Indexes.{hash, entry_of, newest, Indexed, IsNewest}
-use Rattle.std.proofs.lemmas.List.{get_or_append_left, get_or_push, get_or-set_same, get_or-set_other, length-set, at_drop_more, at_drop_all}
+use Rattle.std.proofs.Common.{◌≡◌, ℕ, zero, suc, ◌+◌, ◌-◌, ◌<◌, ◌≤◌, true, false, eqb, ◌≢◌, List, [], ◌∷◌, ◌++◌, length, get_or, set, sym, refl, ap, ◌∙◌, ⊎_elim, add-one, arith, below_more}
+use Rattle.lent.specs.Indexes.{entry_of, newest, Indexed, IsNewest}
+use Rattle.std.proofs.lemmas.List.{get_or_append_left, get_or_push, get_or-set_same, get_or-set_other, length-set}
 use Rattle.std.proofs.lemmas.Bool.{eq-eqb, ne_eqb, cases_eq}
 
 newest_at : (bs : List ℕ) (h n : ℕ) → get_or bs n 0 ≡ h → newest bs h (suc n) ≡ suc n
@@ -76,9 +75,3 @@ pub inserted_last : (hs ns bs : List ℕ) (n h : ℕ) → h < length hs → n < 
 inserted_last hs ns bs n h l m e x =
     inserted hs ns (bs ++ h ∷ []) n h l m (get_or_push bs h 0 n e)
     (indexed_like hs ns bs (bs ++ h ∷ []) n (λ k q. sym (get_or_append_left bs (h ∷ []) 0 k (omega arith))) x)
-
-pub hash_step : (w : Name) (i h x : ℕ) → x ≡ get_or w i 0 → i < length w → hash h (drop i w) ≡ hash 7 w → hash ((h * 31 + x) % 4294967296) (drop (i + 1) w) ≡ hash 7 w
-hash_step w i h x e l v = ap (λ y. hash ((h * 31 + y) % 4294967296) (drop (i + 1) w)) e ∙ sym (at_drop_more (hash h) w i 0 l) ∙ v
-
-pub hash_end : (w : Name) (i h : ℕ) → length w ≤ i → hash h (drop i w) ≡ hash 7 w → h ≡ hash 7 w
-hash_end w i h l v = sym (at_drop_all (hash h) w i l) ∙ v

@@ -1,16 +1,15 @@
 -- Entries by bucket, each bucket from its newest entry to its oldest.
-use Rattle.std.specs.Prelude.{◌≡◌, ℕ, zero, suc, ◌+◌, ◌*◌, ◌%◌, ◌<◌, List, [], ◌∷◌, length, ◌==◌, ◌≢◌, slice_index, None, Option, Some, cond}
+use Rattle.std.specs.Prelude.{◌≡◌, ℕ, zero, suc, ◌+◌, ◌*◌, ◌%◌, ◌<◌, List, length, fold, ◌==◌, ◌≢◌, slice_index, None, Option, Some, cond}
 use Rattle.base.specs.Names.{Name}
 use Rattle.lent.specs.declared.index.Index.{Index}
 
--- the hash of a name's bytes, going on from h
-abbrev pub hash : ℕ → Name → ℕ
-hash h [] = h
-hash h (c ∷ cs) = hash ((h * 31 + c) % 4294967296) cs
+-- the hash of a name's bytes
+abbrev pub hash : Name → ℕ
+hash w = fold (λ h c. (h * 31 % 4294967296 + c) % 4294967296) 7 w
 
 -- the bucket of a name, of count buckets; 0 where there are none
 abbrev pub bucket_of : Name → ℕ → ℕ
-bucket_of w count = cond (count == 0) 0 (hash 7 w % count)
+bucket_of w count = cond (count == 0) 0 (hash w % count)
 
 -- the entry that a word stands for: one less, and none at 0
 abbrev pub entry_of : ℕ → Option ℕ

@@ -19,10 +19,9 @@ pub fn bucket(name: &[u8], count: usize) -> usize
     if count == 0 {
         return 0;
     }
-    let mut hash: u64 = 7;
-    for byte in name {
-        hash = (hash * 31 + u64::from(*byte)) % 4294967296;
-    }
+    let hash = name.iter().fold(7u32, |hash, byte| {
+        hash.wrapping_mul(31).wrapping_add(u32::from(*byte))
+    });
     hash as usize % count
 }
 

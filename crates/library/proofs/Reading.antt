@@ -3,7 +3,9 @@ use Rattle.std.proofs.ByRecursion.{All-push}
 use Rattle.std.specs.List.{AllByRecursion}
 use Rattle.std.specs.Prelude.{None, Option, Some, cond}
 use Rattle.std.proofs.Common.{◌≡◌, ℕ, suc, ◌<◌, ◌≤◌, Bool, true, false, eqb, ltb, leb, List, [], ◌∷◌, ◌++◌, map, length, Ok, Err, refl, subst, arith}
-use Rattle.base.specs.Choices.{opt, on_ok, WhereSome, WhereOk}
+use Rattle.base.specs.Choices.{opt, on_ok}
+use Rattle.std.specs.Result.{IfOk}
+use Rattle.std.specs.Option.{IfSome}
 use Rattle.base.specs.Names.{Name, same}
 use Rattle.base.proofs.Choices.{cond_ok, on_ok_if, ok_part_inv}
 use Rattle.base.proofs.Lists.{all_like}
@@ -69,58 +71,58 @@ named_drafted n d i u p = go (ltb d.top (item_reach i)) refl
 
 record ProgressFine (p : Progress) : Type 0 where
   pub done : AllByRecursion LibraryFine p.done
-  pub draft : WhereSome DraftFine p.draft
+  pub draft : IfSome p.draft DraftFine
 
-checked_fine : (d : Draft) → DraftFine d → WhereOk LibraryFine (checked d)
+checked_fine : (d : Draft) → DraftFine d → IfOk (checked d) LibraryFine
 checked_fine d f = go (leb d.top (length d.library.cells)) refl
   where
-    go : (b : Bool) → leb d.top (length d.library.cells) ≡ b → WhereOk LibraryFine (cond b (Ok d.library) (Err (bad d.top_line NoSuchCell)))
+    go : (b : Bool) → leb d.top (length d.library.cells) ≡ b → IfOk (cond b (Ok d.library) (Err (bad d.top_line NoSuchCell))) LibraryFine
     go true e = let u = under_more d.top (length d.library.cells) d.library (leb-true _ _ e) f.under in record { cells = u.cells; small = f.small; defs = u.defs; inits = u.inits; finis = u.finis }
     go false e = tt
 
-finished_fine : (p : Progress) → ProgressFine p → WhereOk (AllByRecursion LibraryFine) (finished p)
+finished_fine : (p : Progress) → ProgressFine p → IfOk (finished p) (AllByRecursion LibraryFine)
 finished_fine p f = go p.draft f.draft
   where
-    go : (o : Option Draft) → WhereSome DraftFine o → WhereOk (AllByRecursion LibraryFine) (opt o (Ok p.done) (λ d. on_ok (checked d) (λ l. Ok (p.done ++ (l ∷ [])))))
+    go : (o : Option Draft) → IfSome o DraftFine → IfOk (opt o (Ok p.done) (λ d. on_ok (checked d) (λ l. Ok (p.done ++ (l ∷ []))))) (AllByRecursion LibraryFine)
     go None g = f.done
-    go (Some d) g = on_ok_if (AllByRecursion LibraryFine) (checked d) _ (λ l e. All-push LibraryFine p.done l f.done (subst (WhereOk LibraryFine) e (checked_fine d g)))
+    go (Some d) g = on_ok_if (AllByRecursion LibraryFine) (checked d) _ (λ l e. All-push LibraryFine p.done l f.done (subst (λ r. IfOk r LibraryFine) e (checked_fine d g)))
 
-sized_fine : (n : ℕ) (d : Draft) → Named d → WhereOk DraftFine (sized n d)
+sized_fine : (n : ℕ) (d : Draft) → Named d → IfOk (sized n d) DraftFine
 sized_fine n d u = go (leb (length d.library.cells) 65535) refl
   where
-    go : (b : Bool) → leb (length d.library.cells) 65535 ≡ b → WhereOk DraftFine (cond b (Ok d) (Err (bad n TooManyCells)))
+    go : (b : Bool) → leb (length d.library.cells) 65535 ≡ b → IfOk (cond b (Ok d) (Err (bad n TooManyCells))) DraftFine
     go true e = record { under = u; small = omega (arith, leb-true (length d.library.cells) 65535 e) }
     go false e = tt
 
-numbered : {A : Type 0} (P : A → Type 0) (n : ℕ) (r : Read A) → WhereOk P r → WhereOk P (at_line_number n r)
+numbered : {A : Type 0} (P : A → Type 0) (n : ℕ) (r : Read A) → IfOk r P → IfOk (at_line_number n r) P
 numbered P n (Ok a) h = h
 numbered P n (Err e) h = tt
 
-item_fine : (n : ℕ) (p : Progress) (d : Draft) (w : Name) (ws : List Name) → ProgressFine p → DraftFine d → WhereOk ProgressFine (library_item n p d w ws)
+item_fine : (n : ℕ) (p : Progress) (d : Draft) (w : Name) (ws : List Name) → ProgressFine p → DraftFine d → IfOk (library_item n p d w ws) ProgressFine
 item_fine n p d w ws f g =
     on_ok_if ProgressFine (at_line_number n (item_line w ws)) _
     (λ i e. on_ok_if ProgressFine (sized n (drafted n d i)) _
-    (λ q r. record { done = f.done; draft = subst (WhereOk DraftFine) r (sized_fine n (drafted n d i) (named_drafted n d i g.under (subst (WhereOk ItemOwn) e (numbered ItemOwn n (item_line w ws) (item_line_fine w ws))))) }))
+    (λ q r. record { done = f.done; draft = subst (λ r. IfOk r DraftFine) r (sized_fine n (drafted n d i) (named_drafted n d i g.under (subst (λ r. IfOk r ItemOwn) e (numbered ItemOwn n (item_line w ws) (item_line_fine w ws))))) }))
 
-lib_fine : (n : ℕ) (p : Progress) (ws : List Name) → ProgressFine p → WhereOk ProgressFine (lib_line n p ws)
+lib_fine : (n : ℕ) (p : Progress) (ws : List Name) → ProgressFine p → IfOk (lib_line n p ws) ProgressFine
 lib_fine n p ws f =
     on_ok_if ProgressFine (finished p) _
     (λ ls e. on_ok_if ProgressFine (at_line_number n (lib_words ls ws)) _
-    (λ x q. record { done = subst (WhereOk (AllByRecursion LibraryFine)) e (finished_fine p f); draft = record { under = record { cells = tt; defs = tt; inits = tt; finis = tt }; small = omega arith } }))
+    (λ x q. record { done = subst (λ r. IfOk r (AllByRecursion LibraryFine)) e (finished_fine p f); draft = record { under = record { cells = tt; defs = tt; inits = tt; finis = tt }; small = omega arith } }))
 
-line_fine : (n : ℕ) (p : Progress) (ws : List Name) → ProgressFine p → WhereOk ProgressFine (line n p ws)
+line_fine : (n : ℕ) (p : Progress) (ws : List Name) → ProgressFine p → IfOk (line n p ws) ProgressFine
 line_fine n p [] f = f
 line_fine n p ([] ∷ ws) f = f
 line_fine n p ((c ∷ cs) ∷ ws) f = cond_ok ProgressFine (eqb c 35) _ _ f (cond_ok ProgressFine (same (c ∷ cs) k_lib) _ _ (lib_fine n p ws f) (go p.draft f.draft))
   where
-    go : (o : Option Draft) → WhereSome DraftFine o → WhereOk ProgressFine (opt o (Err (bad n OutsideLibrary)) (λ d. library_item n p d (c ∷ cs) ws))
+    go : (o : Option Draft) → IfSome o DraftFine → IfOk (opt o (Err (bad n OutsideLibrary)) (λ d. library_item n p d (c ∷ cs) ws)) ProgressFine
     go None g = tt
     go (Some d) g = item_fine n p d (c ∷ cs) ws f g
 
-lines_fine : (n : ℕ) (p : Progress) (xs : List (List Name)) → ProgressFine p → WhereOk (AllByRecursion LibraryFine) (lines n p xs)
+lines_fine : (n : ℕ) (p : Progress) (xs : List (List Name)) → ProgressFine p → IfOk (lines n p xs) (AllByRecursion LibraryFine)
 lines_fine n p [] f = finished_fine p f
-lines_fine n p (ws ∷ xs) f = on_ok_if (AllByRecursion LibraryFine) (line n p ws) _ (λ q e. lines_fine (suc n) q xs (subst (WhereOk ProgressFine) e (line_fine n p ws f)))
+lines_fine n p (ws ∷ xs) f = on_ok_if (AllByRecursion LibraryFine) (line n p ws) _ (λ q e. lines_fine (suc n) q xs (subst (λ r. IfOk r ProgressFine) e (line_fine n p ws f)))
 
 pub reads_fine : (t : List ℕ) (ls : List Library) → reads t ≡ Some ls → AllByRecursion LibraryFine ls
 unfolding read
-reads_fine t ls e = subst (WhereOk (AllByRecursion LibraryFine)) (ok_part_inv (read t) ls e) (lines_fine 1 nothing_read (map words_of (lines_of t)) (record { done = tt; draft = tt }))
+reads_fine t ls e = subst (λ r. IfOk r (AllByRecursion LibraryFine)) (ok_part_inv (read t) ls e) (lines_fine 1 nothing_read (map words_of (lines_of t)) (record { done = tt; draft = tt }))

@@ -1,64 +1,41 @@
 use catalog::catalog::Catalog;
 use libraries::Libraries;
 use library::types::{Definition, LibraryId};
-use std::alloc::{AllocError, Global};
+use std::io;
+use std::io::Write;
 
-// Adds a line `needs`.
-fn list_need(page: &mut Vec<u8>, name: &[u8]) -> Result<(), AllocError> {
-    page.extend_from_slice(b"needs ")?;
-    page.extend_from_slice(name)?;
-    page.push(b'\n')?;
-    Ok(())
-}
-
-// Adds a line `def`.
-fn list_definition(
-    heap: Global,
-    page: &mut Vec<u8>,
-    definition: Definition<&[u8]>,
-) -> Result<(), AllocError> {
+// A line `def`.
+fn list_definition<W: Write>(out: &mut W, definition: Definition<&[u8]>) -> io::Result<()> {
     let cell = definition.cell.0;
     let scope = if definition.inner { "inner" } else { "all" };
-    page.extend_from_slice(b"def ")?;
-    page.extend_from_slice(definition.symbol.name)?;
-    page.push(b' ')?;
-    page.extend_from_slice(definition.symbol.version)?;
-    let rest = format!(in heap; " {cell} {scope}\n")?;
-    page.extend_from_slice(rest.as_bytes())
+    out.write_all(b"def ")?;
+    out.write_all(definition.symbol.name)?;
+    out.write_all(b" ")?;
+    out.write_all(definition.symbol.version)?;
+    writeln!(out, " {cell} {scope}")
 }
 
-// Adds the lines of a library; without such a library, none.
-pub fn list(
-    heap: Global,
-    page: &mut Vec<u8>,
-    catalog: &Catalog,
-    id: LibraryId,
-) -> Result<(), AllocError> {
-    let Some(name) = catalog.name(id) else {
+// The lines of a library; without such a library, none. Names are bytes, which may be no text.
+pub fn list<W: Write>(out: &mut W, catalog: &Catalog, id: LibraryId) -> io::Result<()> {
+    let (Some(name), Some(sizes)) = (catalog.name(id), catalog.sizes(id)) else {
         return Ok(());
     };
-    let Some(sizes) = catalog.sizes(id) else {
-        return Ok(());
-    };
-    page.extend_from_slice(b"lib ")?;
-    page.extend_from_slice(name)?;
-    page.push(b'\n')?;
+    out.write_all(b"lib ")?;
+    out.write_all(name)?;
+    out.write_all(b"\n")?;
     if catalog.inward(id) == Some(true) {
-        page.extend_from_slice(b"inward\n")?;
+        out.write_all(b"inward\n")?;
     }
-    for j in 0..sizes.needs {
-        if let Some(need) = catalog.need(id, j) {
-            list_need(page, need)?;
-        }
+    for need in (0..sizes.needs).filter_map(|j| catalog.need(id, j)) {
+        out.write_all(b"needs ")?;
+        out.write_all(need)?;
+        out.write_all(b"\n")?;
     }
-    for j in 0..sizes.definitions {
-        if let Some(definition) = catalog.definition(id, j) {
-            list_definition(heap, page, definition)?;
-        }
+    for definition in (0..sizes.definitions).filter_map(|j| catalog.definition(id, j)) {
+        list_definition(out, definition)?;
     }
     let cells = sizes.cells;
     let inits = sizes.initializers;
     let finis = sizes.finalizers;
-    let last = format!(in heap; "cells {cells} inits {inits} finis {finis}\n")?;
-    page.extend_from_slice(last.as_bytes())
+    writeln!(out, "cells {cells} inits {inits} finis {finis}")
 }

@@ -12,7 +12,7 @@ use library::faults::{BadLine, ReadFault};
 use library::types::LibraryId;
 use listing::list;
 use sources::{Sources, locate};
-use std::io::Write;
+use std::io::{BufWriter, Write};
 use std::process::ExitCode;
 use std::{env, fs, io};
 
@@ -23,21 +23,10 @@ initializers and finalizers it has. The files are read as one text, in the order
 a file ends its last line. A line that is wrong is told as FILE:LINE.
 ";
 
-fn arguments(rt: &HostRuntime) -> Result<Vec<String>, Failure> {
-    let mut files = Vec::new(rt.alloc());
-    for file in env::args(rt)?.skip(1) {
-        files.push(file)?;
-    }
-    Ok(files)
-}
-
 fn asks_help(words: &[String]) -> bool {
-    for word in words {
-        if word.as_str() == "--help" || word.as_str() == "-h" {
-            return true;
-        }
-    }
-    false
+    words
+        .iter()
+        .any(|word| word.as_str() == "--help" || word.as_str() == "-h")
 }
 
 fn gather(rt: &HostRuntime, files: &[String]) -> Result<Sources, Failure> {
@@ -62,16 +51,16 @@ fn blame(files: &[String], counts: &[usize], bad: BadLine) -> Result<Failure, Fa
 }
 
 fn show(rt: &HostRuntime, catalog: &Catalog) -> Result<(), Failure> {
-    for i in 0..catalog.len() {
-        let mut page = Vec::new(rt.alloc());
-        list(rt.alloc(), &mut page, catalog, LibraryId(i))?;
-        rt.stdout().write_all(&page)?;
+    let mut out = BufWriter::new(rt.alloc(), rt.stdout())?;
+    for id in (0..catalog.len()).map(LibraryId) {
+        list(&mut out, catalog, id)?;
     }
+    out.flush()?;
     Ok(())
 }
 
 fn run(rt: &HostRuntime) -> Result<(), Failure> {
-    let files = arguments(rt)?;
+    let files: Vec<String> = env::args(rt)?.skip(1).collect(rt.alloc())?;
     if files.is_empty() {
         return Err(Failure::NoFile);
     }

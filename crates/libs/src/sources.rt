@@ -1,4 +1,5 @@
-ghost use Rattle.std.specs.Prelude.{◌≡◌, ◌+◌, ◌^◌, ◌<◌, [], ◌∷◌, ◌++◌, length, OnOk};
+ghost use Rattle.std.specs.Prelude.{◌≡◌, ◌+◌, ◌^◌, ◌<◌, [], ◌∷◌, ◌++◌, length, eqb, OnOk};
+ghost use Rattle.std.specs.List.{count_by};
 ghost use Rattle.text.specs.Words.{lines_of};
 ghost use Rattle.libs.specs.Places.{place, SameLine};
 
@@ -12,10 +13,16 @@ pub struct Sources {
 }
 
 // A line of a file, counted from 1.
-#[derive(Clone, Copy)]
+#[derive(Clone, Copy, PartialEq, Eq, Debug)]
 pub struct Place {
     pub file: usize,
     pub line: usize,
+}
+
+fn line_ends(file: &[u8]) -> usize
+    ensures { result ≡ count_by (λ byte. eqb byte 10) file.now }
+{
+    file.iter().filter(|byte| **byte == b'\n').count()
 }
 
 // How many lines a file has.
@@ -23,13 +30,7 @@ fn lines(file: &[u8]) -> usize
     requires { length file.now + 1 < 2 ^ 64 }
     ensures { result ≡ length (lines_of file.now) }
 {
-    let mut count = 1;
-    for byte in file {
-        if *byte == b'\n' {
-            count += 1;
-        }
-    }
-    count
+    line_ends(file) + 1
 }
 
 impl Sources {
@@ -60,11 +61,11 @@ pub fn locate(counts: &[usize], line: usize) -> Option<Place>
     ensures { result ≡ place 0 counts.now line }
 {
     let mut rest = line;
-    for file in 0..counts.len() {
-        if rest <= counts[file] {
+    for (file, count) in counts.iter().enumerate() {
+        if rest <= *count {
             return Some(Place { file, line: rest });
         }
-        rest -= counts[file];
+        rest -= count;
     }
     None
 }

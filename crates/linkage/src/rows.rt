@@ -28,7 +28,7 @@ impl Row<3> for Load {
     }
 }
 
-// The last word says its state: 1 where it is open, and 2 more where it is global.
+// The last word says its state: 1 where it is open, and 2 more where it is global. One word, so that a group takes no more room.
 impl Row<3> for Group {
     ghost Part = { groups.Group };
 

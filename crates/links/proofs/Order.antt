@@ -3,7 +3,7 @@ use Rattle.std.proofs.lemmas.Option.{same_Some}
 use Rattle.std.specs.Prelude.{Some, cond}
 use Rattle.std.proofs.Common.{◌≡◌, ℕ, zero, suc, ◌+◌, ◌≤◌, Bool, true, false, ◌||◌, ◌⊎◌, List, [], ◌∷◌, ◌++◌, length, sym, refl, ap, ◌∙◌, subst, inl, inr, ⊎_elim, arith}
 use Rattle.base.specs.Names.{Name, same, among, Once}
-use Rattle.base.proofs.Choices.{cond_true, cond_false, opt_some}
+use Rattle.base.proofs.Choices.{opt_some}
 use Rattle.base.proofs.Names.{same_self, once_append}
 use Rattle.library.specs.Library.{Library, find_library}
 use Rattle.links.specs.Closure.{Task, enter, leave, enters, depth, all_needs, init_order}
@@ -13,7 +13,7 @@ use Rattle.links.proofs.Among.{among_here, among_first, among_there, among_cases
 use Rattle.links.proofs.Reach.{all_reached, closure_reaches}
 use Rattle.links.proofs.Cost.{weight, weigh, weigh_all, weigh_le}
 use Rattle.std.proofs.lemmas.List.{length-append}
-use Rattle.std.proofs.lemmas.Bool.{cases_Bool, or_parts}
+use Rattle.std.proofs.lemmas.Bool.{cond-true, cond-false, cases_Bool, or_parts}
 
 -- the library that a task is about
 abbrev of_task : Task → Name
@@ -162,10 +162,10 @@ module _ (ls : List Library) (x : Name) where
       there false false h = omega arith
 
   depth_seen : (n : ℕ) (z : Name) (ts : List Task) (seen done : List Name) → among z seen ≡ true → depth (suc n) ls (enter z ∷ ts) seen done ≡ depth n ls ts seen done
-  depth_seen n z ts seen done e = cond_true (among z seen) _ _ e
+  depth_seen n z ts seen done e = cond-true (among z seen) _ _ e
 
   depth_entered : (n : ℕ) (z : Name) (l : Library) (ts : List Task) (seen done : List Name) → among z seen ≡ false → find_library ls z ≡ Some l → depth (suc n) ls (enter z ∷ ts) seen done ≡ depth n ls (enters l.needs ++ (leave z ∷ ts)) (z ∷ seen) done
-  depth_entered n z l ts seen done e q = cond_false (among z seen) _ _ e ∙ ap (λ ws. depth n ls (ws ++ (leave z ∷ ts)) (z ∷ seen) done) (opt_some (find_library ls z) [] (λ l. enters l.needs) l q)
+  depth_entered n z l ts seen done e q = cond-false (among z seen) _ _ e ∙ ap (λ ws. depth n ls (ws ++ (leave z ∷ ts)) (z ∷ seen) done) (opt_some (find_library ls z) [] (λ l. enters l.needs) l q)
 
   length_enters : (ws : List Name) → length (enters ws) ≡ length ws
   length_enters [] = refl

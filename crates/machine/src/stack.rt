@@ -2,6 +2,7 @@
 ghost use Rattle.std.specs.Prelude.{◌≤◌, length};
 
 // It grows down from their end: what it holds, newest first, are the words from `free` on. Words are lent, there is no heap here.
+// It shares no code with the log, which is read in the other order and grows the other way.
 #[derive(Drop)]
 pub struct Stack<'a> {
     items: &'a mut [u64],

@@ -17,7 +17,7 @@ const BATCH: usize = 1000;
 
 const USAGE: &str = "rounds of arithmetic, then of calls";
 
-// Makes so many steps, or stops at the first that doesn't go on.
+// Makes so many steps, or stops at the first that doesn't go on. Events are no errors, so no `?` hands them up.
 fn batch<P: Cpu>(cpu: &mut P) -> Event
     requires { 1000 ≤ P.room cpu.old }
 {

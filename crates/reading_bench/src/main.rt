@@ -37,8 +37,8 @@ fn text_of(heap: Global, size: usize) -> Result<Vec<u8>, AllocError> {
 fn read(text: &[u8], work: &mut [u64]) -> Option<Found> {
     let catalog = Catalog::read(text, work).ok()?;
     let mut cells = 0usize;
-    for i in 0..catalog.len() {
-        cells = cells.saturating_add(catalog.sizes(LibraryId(i))?.cells);
+    for id in (0..catalog.len()).map(LibraryId) {
+        cells = cells.saturating_add(catalog.sizes(id)?.cells);
     }
     Some(Found {
         libraries: catalog.len(),

@@ -14,15 +14,12 @@ fn meant(letter: u8) -> u8 {
 
 pub fn unescaped(heap: Global, line: &str) -> Result<Vec<u8>, AllocError> {
     let mut bytes = Vec::new(heap);
-    let mut escaped = false;
-    for byte in line.bytes() {
-        if escaped {
-            bytes.push(meant(byte))?;
-            escaped = false;
-        } else if byte == b'\\' {
-            escaped = true;
-        } else {
-            bytes.push(byte)?;
+    let mut letters = line.bytes();
+    while let Some(letter) = letters.next() {
+        if letter != b'\\' {
+            bytes.push(letter)?;
+        } else if let Some(escaped) = letters.next() {
+            bytes.push(meant(escaped))?;
         }
     }
     Ok(bytes)

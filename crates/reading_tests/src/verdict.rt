@@ -5,6 +5,7 @@ use library::faults::{LineFault, ReadFault};
 use library::types::{Cell, LibraryId};
 use std::io;
 
+// The names that the stored output has, which are shorter than the messages.
 fn fault_name(fault: LineFault) -> &'static str {
     match fault {
         LineFault::UnknownKeyword => "unknown keyword",
@@ -30,13 +31,12 @@ struct Tally {
 }
 
 fn words_of(catalog: &Catalog, id: LibraryId, cells: usize) -> u64 {
-    let mut sum = 0u64;
-    for j in 0..cells {
-        if let Some(Cell::Number(n)) = catalog.cell(id, j) {
-            sum = sum.saturating_add(u64::from(n));
-        }
-    }
-    sum
+    (0..cells)
+        .filter_map(|j| match catalog.cell(id, j)? {
+            Cell::Number(n) => Some(u64::from(n)),
+            _ => None,
+        })
+        .fold(0u64, |sum, n| sum.saturating_add(n))
 }
 
 fn count(catalog: &Catalog) -> Tally {
@@ -45,8 +45,7 @@ fn count(catalog: &Catalog) -> Tally {
         cells: 0,
         sum: 0,
     };
-    for i in 0..catalog.len() {
-        let id = LibraryId(i);
+    for id in (0..catalog.len()).map(LibraryId) {
         if let Some(sizes) = catalog.sizes(id) {
             let calls = sizes.initializers.saturating_add(sizes.finalizers);
             let symbols = sizes.needs.saturating_add(sizes.definitions);
@@ -96,10 +95,8 @@ pub fn find_all(rt: &HostRuntime, text: &[u8], n: u32) -> io::Result<()> {
     };
     let mut right = 0u32;
     for i in 0..n {
-        if let Some(LibraryId(k)) = catalog.find(name(rt.alloc(), i)?.as_bytes()) {
-            if k == i as usize {
-                right = right.saturating_add(1);
-            }
+        if catalog.find(name(rt.alloc(), i)?.as_bytes()) == Some(LibraryId(i as usize)) {
+            right = right.saturating_add(1);
         }
     }
     let after = catalog.find(name(rt.alloc(), n)?.as_bytes()).is_none();

@@ -5,10 +5,10 @@ use Rattle.std.specs.List.{AllByRecursion}
 use Rattle.std.specs.Option.{option_map}
 use Rattle.std.specs.Prelude.{None, Option, Some, slice_get, slice_set}
 use Rattle.std.proofs.Common.{◌≡◌, ℕ, suc, ◌+◌, ◌<◌, ◌≤◌, Bool, true, false, not, ◌&&◌, eqb, ◌⊎◌, List, [], ◌∷◌, ◌++◌, length, sym, refl, ap, ◌∙◌, subst, inl, inr, ⊎_elim, arith}
-use Rattle.std.proofs.lemmas.Bool.{eq-eqb, cases_eq}
+use Rattle.std.proofs.lemmas.Bool.{cond-true, cond-false, eq-eqb, cases_eq}
 use Rattle.base.specs.Choices.{opt, guard}
 use Rattle.base.specs.Names.{Name}
-use Rattle.base.proofs.Choices.{cond_true, cond_false, opt_none, opt_some}
+use Rattle.base.proofs.Choices.{opt_none, opt_some}
 use Rattle.base.proofs.Lists.{all_slice_get}
 use Rattle.library.specs.Library.{Symbol, Instruction, Set, Get, Sto, Own, Add, Sub, Mul, Less, Same, Move, Jump, If0, Call, Callr, Ret, Push, Pop, Out, In, Open, Find, Close, End, Library, label_at, any_version}
 use Rattle.library.specs.Fine.{Fine, LibraryFine}
@@ -145,8 +145,8 @@ module _ (w : World) (k : Layout) (i n : ℕ) (z : State) (c : Processor) (fine 
       small = hr;
       h = x.0;
       group = x.1;
-      refused = λ t. gave r (num 0) (omega arith) (x.3 ∙ cond_false (steps.may_close z x.0) _ _ (may x.0 ∙ t));
-      shut = λ t. shut x.0 (x.3 ∙ cond_true (steps.may_close z x.0) _ _ (may x.0 ∙ t));
+      refused = λ t. gave r (num 0) (omega arith) (x.3 ∙ cond-false (steps.may_close z x.0) _ _ (may x.0 ∙ t));
+      shut = λ t. shut x.0 (x.3 ∙ cond-true (steps.may_close z x.0) _ _ (may x.0 ∙ t));
     })) (num_or_fell r _ s)
       where
         shut_state : ℕ → State

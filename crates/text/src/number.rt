@@ -1,7 +1,8 @@
 ghost use Rattle.std.specs.Prelude.{◌≡◌, ◌<◌, IfSome};
 ghost use Rattle.text.specs.Words.{below};
 
-// The decimal number that the word writes, where it is below the limit.
+// The decimal number that the word writes, where it is below the limit. A loop by hand: it stops at the first
+// byte that is no digit, and a fold that can stop asks for more lemmas than the loop's one line.
 pub fn number(word: &[u8], limit: u64) -> Option<u64>
     ensures value { result ≡ below limit word.now }
     ensures bound { IfSome result (λ n. n < limit) }
