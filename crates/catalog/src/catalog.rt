@@ -1,4 +1,5 @@
-ghost use Rattle.tables.specs.Store.{Named};
+ghost use Rattle.library.specs.Distinct.{NamedOnce};
+ghost use Rattle.tables.specs.Store.{Named, libraries};
 
 use crate::count::count;
 use lent::table::Table;
@@ -27,6 +28,7 @@ const CELLS: usize = 11;
 pub struct Catalog<'t, 'a> {
     pub(crate) parts: Parts<'t, 'a>,
     ghost named: { Named parts.tables parts.names },
+    ghost distinct: { ∥ NamedOnce (libraries parts.tables) ∥₁ },
 }
 
 impl<'t, 'a> Catalog<'t, 'a> {
