@@ -1,2 +1,3 @@
 -- Lemmas on parts of libraries.
 pub mod Looking
+pub mod Naming

@@ -1,4 +1,5 @@
-ghost use Rattle.tables.specs.Store.{Named};
+ghost use Rattle.library.specs.Distinct.{NamedOnce};
+ghost use Rattle.tables.specs.Store.{Named, libraries};
 
 use crate::count::count;
 use lent::table::Table;
@@ -7,7 +8,6 @@ use library::faults::ReadFault;
 use library::types::{Cell, CellNo, Definition, LibraryId};
 use reading::parts::Parts;
 use rows::row::Row;
-use rows::views;
 use text::reader::Span;
 use text::words::slice;
 
@@ -27,6 +27,7 @@ const CELLS: usize = 11;
 pub struct Catalog<'t, 'a> {
     pub(crate) parts: Parts<'t, 'a>,
     ghost named: { Named parts.tables parts.names },
+    ghost distinct: { ∥ NamedOnce (libraries parts.tables) ∥₁ },
 }
 
 impl<'t, 'a> Catalog<'t, 'a> {
@@ -106,8 +107,8 @@ impl<'t, 'a> Libraries<'t> for Catalog<'t, 'a> {
     }
 
     fn definition(&self, id: LibraryId, j: usize) -> Option<Definition<&'t [u8]>> {
-        let definition = self.part(id, DEFINITIONS, &self.parts.tables.defs, j)?;
-        Some(views::definition(self.parts.tables.text, definition))
+        let definition: Definition<Span> = self.part(id, DEFINITIONS, &self.parts.tables.defs, j)?;
+        Some(definition.map(|name| slice(self.parts.tables.text, name)))
     }
 
     fn initializer(&self, id: LibraryId, j: usize) -> Option<CellNo> {
@@ -119,7 +120,7 @@ impl<'t, 'a> Libraries<'t> for Catalog<'t, 'a> {
     }
 
     fn cell(&self, id: LibraryId, j: usize) -> Option<Cell<&'t [u8]>> {
-        let cell = self.part(id, CELLS, &self.parts.tables.cells, j)?;
-        Some(views::cell(self.parts.tables.text, cell))
+        let cell: Cell<Span> = self.part(id, CELLS, &self.parts.tables.cells, j)?;
+        Some(cell.map(|name| slice(self.parts.tables.text, name)))
     }
 }

@@ -2,3 +2,4 @@
 pub mod Labels
 pub mod Operands
 pub mod Reading
+pub mod Distinct

@@ -94,7 +94,7 @@ sized_fine n d u = go (leb (length d.library.cells) 65535) refl
     go true e = record { under = u; small = omega (arith, leb-true (length d.library.cells) 65535 e) }
     go false e = tt
 
-numbered : {A : Type 0} (P : A → Type 0) (n : ℕ) (r : Read A) → IfOk r P → IfOk (at_line_number n r) P
+pub numbered : {A : Type 0} (P : A → Type 0) (n : ℕ) (r : Read A) → IfOk r P → IfOk (at_line_number n r) P
 numbered P n (Ok a) h = h
 numbered P n (Err e) h = tt
 

@@ -5,3 +5,4 @@ pub mod Keywords
 pub mod Lines
 pub mod Text
 pub mod Fine
+pub mod Distinct

@@ -1,5 +1,6 @@
 ghost use Rattle.std.specs.Prelude.{◌≡◌, ◌%◌, ◌<◌};
-ghost use Rattle.library.specs.Views.{reg};
+ghost use Rattle.base.specs.Names.{Name};
+ghost use Rattle.library.specs.Views.{reg, symbol_of, definition_of, cell_of};
 
 // One of the eight registers.
 // No struct with a ghost field: `Cell<&[u8]>` has registers, and an enum that holds a reference and such a struct gets no proof.
@@ -126,12 +127,39 @@ pub struct Symbol<N> {
     pub version: N,
 }
 
+impl<N> Symbol<N> {
+    // With what f gives for its names.
+    pub fn map<M, F: Fn(N) -> M + Copy>(self, f: F) -> Symbol<M>
+        requires { F.IsAlwaysCallable f }
+        ensures { (g : N → Name) (h : M → Name) → ((x : N) (y : M) → F.post f x y → h y ≡ g x) → symbol_of h result ≡ symbol_of g self }
+    {
+        Symbol {
+            name: f(self.name),
+            version: f(self.version),
+        }
+    }
+}
+
 // A symbol that a library defines, and where; inner: for that library alone.
 #[derive(Clone, Copy, PartialEq, Eq, Debug)]
 pub struct Definition<N> {
     pub symbol: Symbol<N>,
     pub cell: CellNo,
     pub inner: bool,
+}
+
+impl<N> Definition<N> {
+    // With what f gives for its names.
+    pub fn map<M, F: Fn(N) -> M + Copy>(self, f: F) -> Definition<M>
+        requires { F.IsAlwaysCallable f }
+        ensures { (g : N → Name) (h : M → Name) → ((x : N) (y : M) → F.post f x y → h y ≡ g x) → definition_of h result ≡ definition_of g self }
+    {
+        Definition {
+            symbol: self.symbol.map(f),
+            cell: self.cell,
+            inner: self.inner,
+        }
+    }
 }
 
 // A cell, as its line says it.
@@ -144,6 +172,23 @@ pub enum Cell<N> {
     Slot(Symbol<N>),
     Name(N),
     Code(Instruction),
+}
+
+impl<N> Cell<N> {
+    // With what f gives for its names.
+    pub fn map<M, F: Fn(N) -> M + Copy>(self, f: F) -> Cell<M>
+        requires { F.IsAlwaysCallable f }
+        ensures { (g : N → Name) (h : M → Name) → ((x : N) (y : M) → F.post f x y → h y ≡ g x) → cell_of h result ≡ cell_of g self }
+    {
+        match self {
+            Cell::Number(n) => Cell::Number(n),
+            Cell::Ref(symbol, offset, must) => Cell::Ref(symbol.map(f), offset, must),
+            Cell::At(to) => Cell::At(to),
+            Cell::Slot(symbol) => Cell::Slot(symbol.map(f)),
+            Cell::Name(name) => Cell::Name(f(name)),
+            Cell::Code(code) => Cell::Code(code),
+        }
+    }
 }
 
 // What a line says of the library that it stands in.

@@ -8,6 +8,7 @@ use lines::items::item;
 use operands::{end, word};
 use tables::draft::Draft;
 use tables::tables::Tables;
+use text::lines::Lines;
 use text::reader::{Reader, Span};
 use text::words::slice;
 
@@ -168,12 +169,9 @@ impl<'t, 'a> Parts<'t, 'a> {
             start: 0,
             end: text.len(),
         };
-        let mut rest = Reader::new(text, whole);
         let mut held: Option<Draft> = None;
-        let mut number: usize = 1;
-        while let Some(part) = rest.line() {
+        for (number, part) in (1usize..).zip(Lines::new(text, whole)) {
             held = self.line(number, held, part)?;
-            number += 1;
         }
         self.finish(held)
     }

@@ -4,4 +4,3 @@
 mod cells;
 mod fields;
 pub mod row;
-pub mod views;

@@ -1,6 +1,7 @@
 use Rattle.std.specs.Prelude.{Some}
+use Rattle.text.specs.Readers.{bytes}
 use Rattle.std.specs.Option.{option_map}
-use Rattle.std.proofs.Common.{refl, ap, ◌∙◌}
+use Rattle.std.proofs.Common.{of_calls, refl, ap, ◌∙◌}
 use Rattle.library.specs.Library.{Library}
 use Rattle.library.specs.Views.{definition_of}
 use Rattle.tables.specs.Store.{store, library_at}
@@ -13,4 +14,4 @@ returns-in_err-definition c = ap (λ o. option_map (definition_of (λ x. x.now))
 
 pub returns : goal.returns
 unfolding store library_at
-returns c = ap Some c.definition.ensures ∙ c.in_ok-definition.ensures c.args.self.now.parts.tables.text.now ∙ part_is (store c.args.self.now.parts.tables) c.args.id.0 5 c.args.j (λ (l : Library). l.defs) (store c.args.self.now.parts.tables).defs (λ r. refl)
+returns c = ap Some (c.map.ensures (bytes c.args.self.now.parts.tables.text.now) (λ x. x.now) (λ x y p. search of_calls)) ∙ c.before.before.in_ok-definition.ensures c.args.self.now.parts.tables.text.now ∙ part_is (store c.args.self.now.parts.tables) c.args.id.0 5 c.args.j (λ (l : Library). l.defs) (store c.args.self.now.parts.tables).defs (λ r. refl)
