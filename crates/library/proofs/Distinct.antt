@@ -3,7 +3,8 @@ use Rattle.std.specs.Prelude.{None, Option, Some, cond, is_some}
 use Rattle.std.proofs.Common.{◌≡◌, ℕ, suc, Bool, true, false, eqb, ltb, leb, List, [], ◌∷◌, ◌++◌, map, length, Ok, Err, sym, refl, ap, ◌∙◌, subst}
 use Rattle.std.proofs.lemmas.List.{map-append}
 use Rattle.std.proofs.lemmas.Bool.{or_from}
-use Rattle.base.specs.Choices.{opt, on_ok, WhereOk}
+use Rattle.base.specs.Choices.{opt, on_ok}
+use Rattle.std.specs.Result.{IfOk}
 use Rattle.base.specs.Names.{Name, same, among, Once}
 use Rattle.base.proofs.Choices.{cond_ok, on_ok_if}
 use Rattle.base.proofs.Names.{once_append, same_is, same_self}
@@ -41,20 +42,20 @@ drafted_name n d i = go (ltb d.top (item_reach i))
     go true = apply_name d.library i
     go false = apply_name d.library i
 
-checked_is : (d : Draft) → WhereOk (λ l. l ≡ d.library) (checked d)
+checked_is : (d : Draft) → IfOk (checked d) (λ l. l ≡ d.library)
 checked_is d = cond_ok (λ l. l ≡ d.library) (leb d.top (length d.library.cells)) (Ok d.library) (Err (bad d.top_line NoSuchCell)) refl tt
 
-sized_is : (n : ℕ) (d : Draft) → WhereOk (λ e. e ≡ d) (sized n d)
+sized_is : (n : ℕ) (d : Draft) → IfOk (sized n d) (λ e. e ≡ d)
 sized_is n d = cond_ok (λ e. e ≡ d) (leb (length d.library.cells) 65535) (Ok d) (Err (bad n TooManyCells)) refl tt
 
-finished_apart : (p : Progress) → Apart p → WhereOk NamedOnce (finished p)
+finished_apart : (p : Progress) → Apart p → IfOk (finished p) NamedOnce
 finished_apart p = go p.draft
   where
-    go : (o : Option Draft) → Once (opt o (map name_of p.done) (λ d. map name_of p.done ++ (d.library.name ∷ []))) → WhereOk NamedOnce (opt o (Ok p.done) (λ d. on_ok (checked d) (λ l. Ok (p.done ++ (l ∷ [])))))
+    go : (o : Option Draft) → Once (opt o (map name_of p.done) (λ d. map name_of p.done ++ (d.library.name ∷ []))) → IfOk (opt o (Ok p.done) (λ d. on_ok (checked d) (λ l. Ok (p.done ++ (l ∷ []))))) NamedOnce
     go None f = f
     go (Some d) f =
         on_ok_if NamedOnce (checked d) _
-        (λ l e. let q : l ≡ d.library = subst (WhereOk (λ l. l ≡ d.library)) e (checked_is d) in subst Once (sym (map-append name_of p.done (l ∷ []) ∙ ap (λ (k : Library). map name_of p.done ++ (k.name ∷ [])) q)) f)
+        (λ l e. let q : l ≡ d.library = subst (λ r. IfOk r (λ l. l ≡ d.library)) e (checked_is d) in subst Once (sym (map-append name_of p.done (l ∷ []) ∙ ap (λ (k : Library). map name_of p.done ++ (k.name ∷ [])) q)) f)
 
 same_flip : (x y : Name) → same x y ≡ false → same y x ≡ false
 same_flip x y e = go (same y x) refl
@@ -72,40 +73,40 @@ not_among (l ∷ ls) x e = go (same l.name x) refl e (not_among ls x)
     go true q e f = cc
     go false q e f = or_from _ _ (same_flip l.name x q) (f e)
 
-lib_words_new : (ls : List Library) (ws : List Name) → WhereOk (λ x. is_some (find_library ls x) ≡ false) (lib_words ls ws)
+lib_words_new : (ls : List Library) (ws : List Name) → IfOk (lib_words ls ws) (λ x. is_some (find_library ls x) ≡ false)
 lib_words_new ls [] = tt
 lib_words_new ls (x ∷ us) = go (is_some (find_library ls x)) us refl
   where
-    go : (b : Bool) (us : List Name) → is_some (find_library ls x) ≡ b → WhereOk (λ x. is_some (find_library ls x) ≡ false) (cond b (Err DuplicateLibrary) (end_line x us))
+    go : (b : Bool) (us : List Name) → is_some (find_library ls x) ≡ b → IfOk (cond b (Err DuplicateLibrary) (end_line x us)) (λ x. is_some (find_library ls x) ≡ false)
     go true us e = tt
     go false [] e = e
     go false (u ∷ us) e = tt
 
-item_apart : (n : ℕ) (p : Progress) (d : Draft) (w : Name) (ws : List Name) → Once (map name_of p.done ++ (d.library.name ∷ [])) → WhereOk Apart (library_item n p d w ws)
+item_apart : (n : ℕ) (p : Progress) (d : Draft) (w : Name) (ws : List Name) → Once (map name_of p.done ++ (d.library.name ∷ [])) → IfOk (library_item n p d w ws) Apart
 item_apart n p d w ws f =
     on_ok_if Apart (at_line_number n (item_line w ws)) _
     (λ i e. on_ok_if Apart (sized n (drafted n d i)) _
-    (λ q r. let s : q ≡ drafted n d i = subst (WhereOk (λ e. e ≡ drafted n d i)) r (sized_is n (drafted n d i)) in subst (λ x. Once (map name_of p.done ++ (x ∷ []))) (sym (ap (λ (d : Draft). d.library.name) s ∙ drafted_name n d i)) f))
+    (λ q r. let s : q ≡ drafted n d i = subst (λ r. IfOk r (λ e. e ≡ drafted n d i)) r (sized_is n (drafted n d i)) in subst (λ x. Once (map name_of p.done ++ (x ∷ []))) (sym (ap (λ (d : Draft). d.library.name) s ∙ drafted_name n d i)) f))
 
-lib_apart : (n : ℕ) (p : Progress) (ws : List Name) → Apart p → WhereOk Apart (lib_line n p ws)
+lib_apart : (n : ℕ) (p : Progress) (ws : List Name) → Apart p → IfOk (lib_line n p ws) Apart
 lib_apart n p ws f =
     on_ok_if Apart (finished p) _
     (λ ls e. on_ok_if Apart (at_line_number n (lib_words ls ws)) _
-    (λ x q. once_append (map name_of ls) (x ∷ []) (subst (WhereOk NamedOnce) e (finished_apart p f)) (not_among ls x (subst (WhereOk (λ x. is_some (find_library ls x) ≡ false)) q (numbered _ n (lib_words ls ws) (lib_words_new ls ws))), tt) (refl, tt)))
+    (λ x q. once_append (map name_of ls) (x ∷ []) (subst (λ r. IfOk r NamedOnce) e (finished_apart p f)) (not_among ls x (subst (λ r. IfOk r (λ x. is_some (find_library ls x) ≡ false)) q (numbered _ n (lib_words ls ws) (lib_words_new ls ws))), tt) (refl, tt)))
 
-line_apart : (n : ℕ) (p : Progress) (ws : List Name) → Apart p → WhereOk Apart (line n p ws)
+line_apart : (n : ℕ) (p : Progress) (ws : List Name) → Apart p → IfOk (line n p ws) Apart
 line_apart n p [] f = f
 line_apart n p ([] ∷ ws) f = f
 line_apart n p ((c ∷ cs) ∷ ws) f = cond_ok Apart (eqb c 35) _ _ f (cond_ok Apart (same (c ∷ cs) k_lib) _ _ (lib_apart n p ws f) (go p.draft f))
   where
-    go : (o : Option Draft) → Once (opt o (map name_of p.done) (λ d. map name_of p.done ++ (d.library.name ∷ []))) → WhereOk Apart (opt o (Err (bad n OutsideLibrary)) (λ d. library_item n p d (c ∷ cs) ws))
+    go : (o : Option Draft) → Once (opt o (map name_of p.done) (λ d. map name_of p.done ++ (d.library.name ∷ []))) → IfOk (opt o (Err (bad n OutsideLibrary)) (λ d. library_item n p d (c ∷ cs) ws)) Apart
     go None f = tt
     go (Some d) f = item_apart n p d (c ∷ cs) ws f
 
-lines_apart : (n : ℕ) (p : Progress) (xs : List (List Name)) → Apart p → WhereOk NamedOnce (lines n p xs)
+lines_apart : (n : ℕ) (p : Progress) (xs : List (List Name)) → Apart p → IfOk (lines n p xs) NamedOnce
 lines_apart n p [] f = finished_apart p f
-lines_apart n p (ws ∷ xs) f = on_ok_if NamedOnce (line n p ws) _ (λ q e. lines_apart (suc n) q xs (subst (WhereOk Apart) e (line_apart n p ws f)))
+lines_apart n p (ws ∷ xs) f = on_ok_if NamedOnce (line n p ws) _ (λ q e. lines_apart (suc n) q xs (subst (λ r. IfOk r Apart) e (line_apart n p ws f)))
 
 pub reads_once : (t : List ℕ) (ls : List Library) → read t ≡ Ok ls → NamedOnce ls
 unfolding read
-reads_once t ls e = subst (WhereOk NamedOnce) e (lines_apart 1 nothing_read (map words_of (lines_of t)) tt)
+reads_once t ls e = subst (λ r. IfOk r NamedOnce) e (lines_apart 1 nothing_read (map words_of (lines_of t)) tt)
