@@ -3,7 +3,7 @@ ghost use Rattle.std.specs.Prelude.{◌≤◌, length};
 use crate::refusals::Full;
 
 // Words first in, first out: those from head to tail are still to come: words are lent, there is no heap here.
-// A place is used once, so in all as many can be pushed as there are lent words.
+// A place is used once, so in all as many can be pushed as there are lent words. So it shares no code with a table, whose rows stay.
 #[derive(Drop)]
 pub struct Queue<'a> {
     words: &'a mut [u64],

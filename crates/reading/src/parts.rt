@@ -129,7 +129,8 @@ impl<'t, 'a> Parts<'t, 'a> {
         }
     }
 
-    // A line of the text.
+    // A line of the text. The draft that is being read stands beside the parts, for a line takes it and gives the next: as a field
+    // it would have to be taken out and put back each time.
     fn line(
         &mut self,
         number: usize,
