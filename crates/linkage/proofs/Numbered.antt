@@ -1,10 +1,8 @@
 -- Modules by their number.
-use Rattle.std.specs.Prelude.{Option, None, Some, slice_get}
+use Rattle.std.specs.Prelude.{slice_get}
 use Rattle.std.specs.Option.{option_map}
-use Rattle.std.proofs.Common.{◌≡◌, ℕ, zero, suc, ◌+◌, List, [], ◌∷◌, map, length, sym, refl, ap, ◌∙◌, arith}
+use Rattle.std.proofs.Common.{◌≡◌, ℕ, zero, suc, ◌+◌, List, [], ◌∷◌, length, refl, ap, ◌∙◌, arith}
 use Rattle.library.specs.Library.{Library}
-use Rattle.links.specs.Links.{Links}
-use Rattle.links.specs.Links as links
 use Rattle.lent.specs.Tables.{rows_in}
 use Rattle.lent.proofs.Rows.{rows_len}
 use Rattle.linkage.specs.Tables.{numbered, module_of, links_of}

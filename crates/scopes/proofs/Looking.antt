@@ -1,5 +1,5 @@
 -- Lists looked through from an element on, and what of tables it stands for.
-use Rattle.std.specs.Prelude.{Bool, true, false, not, ◌&&◌, ◌==◌, None, Option, Some, cond, is_some, slice_get}
+use Rattle.std.specs.Prelude.{Bool, true, false, ◌==◌, None, Option, Some, cond, is_some, slice_get}
 use Rattle.std.specs.Option.{option_map, option_or, unwrap_or}
 use Rattle.std.specs.List.{between}
 use Rattle.std.proofs.Common.{◌≡◌, ℕ, zero, suc, ◌+◌, ◌-◌, ◌<◌, ◌≤◌, List, [], ◌∷◌, ◌++◌, map, length, take, drop, sym, refl, ap, ◌∙◌, true≢false, arith}
@@ -8,14 +8,14 @@ use Rattle.base.specs.Choices.{opt, on_some, guard}
 use Rattle.library.specs.Library.{Library, Definition, Symbol, any_version}
 use Rattle.links.specs.Links.{Place, Module, Group, Links, place_at}
 use Rattle.links.specs.Symbols.{matches, find_def}
-use Rattle.links.specs.Scope.{live_at, lookup, global_members, members_of, resolve}
-use Rattle.links.specs.Close.{is_open, found_in}
+use Rattle.links.specs.Scope.{lookup, global_members, members_of, resolve}
+use Rattle.links.specs.Close.{found_in}
 use Rattle.libraries.specs.Looks.{part_at, field_at}
 use Rattle.base.specs.Names.{Name}
 use Rattle.lent.specs.Tables.{rows_in}
 use Rattle.lent.proofs.Rows.{rows_past}
 use Rattle.linkage.specs.Rows.{group_at}
-use Rattle.linkage.specs.Tables.{library_at, module_at, module_of, group_of, links_of, number_in}
+use Rattle.linkage.specs.Tables.{library_at, module_at, live_in, open_in, module_of, group_of, links_of, number_in}
 use Rattle.linkage.specs.declared.tables.Tables.{Tables}
 use Rattle.linkage.specs.declared.types.Module as code
 use Rattle.linkage.specs.declared.types.Group as groups
@@ -85,31 +85,26 @@ lookup-append ms me s (j ∷ js) ys =
     ∙ ap (λ o. option_or o (lookup ms me s ys)) (sym (opt_or (seen_in ms me s j) (lookup ms me s js)))
 
 -- what a module has, by what the tables say of it
-abbrev pub had : List Library → ℕ → Symbol → ℕ → Option code.Module → Option Place
-had ls me s j o = on_some o (λ m. guard m.live (on_some (find_def (me == j) (library_at ls m.load.library.0).defs s) (λ k. Some (place_at j k))))
+abbrev had : List Library → ℕ → Symbol → ℕ → Option code.Module → Option Place
+had ls me s j o = on_some o (λ m. on_some (find_def (me == j) (library_at ls m.load.library.0).defs s) (λ k. Some (place_at j k)))
 
-pub seen_is : (ls : List Library) (t : Tables) (me : ℕ) (s : Symbol) (j : ℕ) → seen_in (links_of ls t).modules me s j ≡ had ls me s j (option_map (module_at t j) (slice_get (rows_in 3 t.modules) j))
-seen_is ls t me s j = ap (λ o. on_some (on_some o (λ x. guard x.live (Some x))) (λ x. on_some (find_def (me == j) x.lib.defs s) (λ k. Some (place_at j k)))) (module_is ls t j) ∙ go (slice_get (rows_in 3 t.modules) j)
+pub module_has : (ls : List Library) (t : Tables) (me : ℕ) (s : Symbol) (j : ℕ) (o : Option code.Module) → o ≡ live_in t j → had ls me s j o ≡ seen_in (links_of ls t).modules me s j
+module_has ls t me s j o e = ap (had ls me s j) e ∙ go (slice_get (rows_in 3 t.modules) j) ∙ sym (ap (λ o. seen o) (module_is ls t j))
   where
-    at : (b : Bool) (x : Module) → on_some (guard b (Some x)) (λ x. on_some (find_def (me == j) x.lib.defs s) (λ k. Some (place_at j k))) ≡ guard b (on_some (find_def (me == j) x.lib.defs s) (λ k. Some (place_at j k)))
-    at true x = refl
-    at false x = refl
+    seen : Option Module → Option Place
+    seen o = on_some (on_some o (λ x. guard x.live (Some x))) (λ x. on_some (find_def (me == j) x.lib.defs s) (λ k. Some (place_at j k)))
 
-    go : (o : Option (List ℕ)) → on_some (on_some (option_map (module_of ls t j) o) (λ x. guard x.live (Some x))) (λ x. on_some (find_def (me == j) x.lib.defs s) (λ k. Some (place_at j k))) ≡ had ls me s j (option_map (module_at t j) o)
+    at : (b : Bool) (x : Module) (m : code.Module) → x.lib ≡ library_at ls m.load.library.0 → had ls me s j (guard b (Some m)) ≡ on_some (guard b (Some x)) (λ x. on_some (find_def (me == j) x.lib.defs s) (λ k. Some (place_at j k)))
+    at true x m e = ap (λ (l : Library). on_some (find_def (me == j) l.defs s) (λ k. Some (place_at j k))) (sym e)
+    at false x m e = refl
+
+    go : (r : Option (List ℕ)) → had ls me s j (on_some (option_map (module_at t j) r) (λ m. guard m.live (Some m))) ≡ seen (option_map (module_of ls t j) r)
     go None = refl
-    go (Some r) = at (module_at t j r).live (module_of ls t j r)
+    go (Some r) = at (module_at t j r).live (module_of ls t j r) (module_at t j r) refl
 
-pub module_none : (ls : List Library) (t : Tables) (me : ℕ) (s : Symbol) (j : ℕ) → None ≡ option_map (module_at t j) (slice_get (rows_in 3 t.modules) j) → None ≡ seen_in (links_of ls t).modules me s j
-module_none ls t me s j e = ap (had ls me s j) e ∙ sym (seen_is ls t me s j)
-
-pub module_gone : (ls : List Library) (t : Tables) (me : ℕ) (s : Symbol) (j : ℕ) (m : code.Module) → Some m ≡ option_map (module_at t j) (slice_get (rows_in 3 t.modules) j) → m.live ≡ false → None ≡ seen_in (links_of ls t).modules me s j
-module_gone ls t me s j m e b = sym (ap (λ b. guard b (on_some (find_def (me == j) (library_at ls m.load.library.0).defs s) (λ k. Some (place_at j k)))) b) ∙ ap (had ls me s j) e ∙ sym (seen_is ls t me s j)
-
-pub module_has : (ls : List Library) (t : Tables) (me : ℕ) (s : Symbol) (j : ℕ) (m : code.Module) (c : Option ℕ) → Some m ≡ option_map (module_at t j) (slice_get (rows_in 3 t.modules) j) → m.live ≡ true → c ≡ find_def (me == j) (library_at ls m.load.library.0).defs s → on_some c (λ k. Some (place_at j k)) ≡ seen_in (links_of ls t).modules me s j
-module_has ls t me s j m c e b f =
-    ap (λ o. on_some o (λ k. Some (place_at j k))) f
-    ∙ sym (ap (λ b. guard b (on_some (find_def (me == j) (library_at ls m.load.library.0).defs s) (λ k. Some (place_at j k)))) b)
-    ∙ ap (had ls me s j) e ∙ sym (seen_is ls t me s j)
+-- the cell that a module has
+pub cell_in : (ls : List Library) (t : Tables) (me : ℕ) (s : Symbol) (j : ℕ) (m : code.Module) (c : Option ℕ) → Some m ≡ live_in t j → c ≡ find_def (me == j) (library_at ls m.load.library.0).defs s → on_some c (λ k. Some (place_at j k)) ≡ seen_in (links_of ls t).modules me s j
+cell_in ls t me s j m c e f = ap (λ o. on_some o (λ k. Some (place_at j k))) f ∙ module_has ls t me s j (Some m) e
 
 -- the definition that is meant was found, or not yet
 pub def_found : (ls : List Library) (k i : ℕ) (mine : Bool) (d : Definition) (s : Symbol) (b : Bool) (r : Option ℕ) → Some d ≡ part_at ls k (λ l. l.defs) i → b ≡ matches mine s d → b ≡ true → find_def mine (drop i (library_at ls k).defs) s ≡ r → Some d.cell ≡ r
@@ -168,7 +163,7 @@ group_next ls t me s n g r e inv =
     let ms = (links_of ls t).modules in
     let gs = (links_of ls t).groups in
     sym (ap (λ xs. lookup ms me s (global_members xs)) (drop_next gs n (group_of t g) (ap (option_map (group_of t)) e ∙ sym (group_is ls t n)))
-        ∙ lookup-append ms me s (shared (group_of t g)) (global_members (drop (n + 1) gs)))
+    ∙ lookup-append ms me s (shared (group_of t g)) (global_members (drop (n + 1) gs)))
     ∙ inv
 
 pub group_past : (ls : List Library) (t : Tables) (me : ℕ) (s : Symbol) (n : ℕ) (r : Option Place) → None ≡ option_map group_at (slice_get (rows_in 3 t.groups) n) → lookup (links_of ls t).modules me s (global_members (drop n (links_of ls t).groups)) ≡ r → None ≡ r
@@ -216,25 +211,31 @@ resolve_is ls t me s m e = go (slice_get (rows_in 3 t.modules) me) refl e
         let x = module_of ls t me r in
         ap parts (same_Some _ _ p)
         ∙ sym (ap (λ o. lookup ms me s (scope_by (links_of ls t) me o)) (module_is ls t me ∙ ap (option_map (module_of ls t me)) q)
-            ∙ lookup-append ms me s (cond x.lib.inward (me ∷ []) []) (global_members gs ++ members_of gs x.group)
-            ∙ ap (λ o. option_or o (lookup ms me s (global_members gs ++ members_of gs x.group))) (own x.lib.inward)
-            ∙ ap (option_or (cond x.lib.inward (seen_in ms me s me) None)) (lookup-append ms me s (global_members gs) (members_of gs x.group)))
-
--- what find gives, by what is said of the group
-abbrev found_by : Links → Name → Option Group → Option Place
-found_by k x o = guard (opt o false (λ g. g.opened)) (lookup k.modules (length k.modules) (record { name = x; version = any_version }) (opt o [] (λ g. g.members)))
+        ∙ lookup-append ms me s (cond x.lib.inward (me ∷ []) []) (global_members gs ++ members_of gs x.group)
+        ∙ ap (λ o. option_or o (lookup ms me s (global_members gs ++ members_of gs x.group))) (own x.lib.inward)
+        ∙ ap (option_or (cond x.lib.inward (seen_in ms me s me) None)) (lookup-append ms me s (global_members gs) (members_of gs x.group)))
 
 -- what is found in a group
-pub found_none : (ls : List Library) (t : Tables) (h : ℕ) (x : Name) → None ≡ option_map group_at (slice_get (rows_in 3 t.groups) h) → None ≡ found_in (links_of ls t) h x
-found_none ls t h x e = sym (ap (found_by (links_of ls t) x) (group_is ls t h ∙ ap (option_map (group_of t)) (sym e)))
+pub found_is : (ls : List Library) (t : Tables) (h : ℕ) (x : Name) (o : Option groups.Group) → o ≡ open_in t h → on_some o (λ g. lookup (links_of ls t).modules t.modules.len (record { name = x; version = any_version }) (group_of t g).members) ≡ found_in (links_of ls t) h x
+found_is ls t h x o e =
+    ap (found t.modules.len) e
+    ∙ ap (λ n. found n (open_in t h)) (sym (modules_len ls t))
+    ∙ go (slice_get (rows_in 3 t.groups) h)
+    ∙ ap by (sym (group_is ls t h))
+  where
+    looked : ℕ → groups.Group → Option Place
+    looked n g = lookup (links_of ls t).modules n (record { name = x; version = any_version }) (group_of t g).members
 
-pub found_closed : (ls : List Library) (t : Tables) (h : ℕ) (x : Name) (g : groups.Group) → Some g ≡ option_map group_at (slice_get (rows_in 3 t.groups) h) → g.opened ≡ false → None ≡ found_in (links_of ls t) h x
-found_closed ls t h x g e b =
-    sym (ap (found_by (links_of ls t) x) (group_is ls t h ∙ ap (option_map (group_of t)) (sym e))
-        ∙ ap (λ b. guard b (lookup (links_of ls t).modules (length (links_of ls t).modules) (record { name = x; version = any_version }) (group_of t g).members)) b)
+    found : ℕ → Option groups.Group → Option Place
+    found n o = on_some o (looked n)
 
-pub found_is : (ls : List Library) (t : Tables) (h : ℕ) (x : Name) (g : groups.Group) → Some g ≡ option_map group_at (slice_get (rows_in 3 t.groups) h) → g.opened ≡ true → lookup (links_of ls t).modules t.modules.len (record { name = x; version = any_version }) (group_of t g).members ≡ found_in (links_of ls t) h x
-found_is ls t h x g e b =
-    sym (ap (found_by (links_of ls t) x) (group_is ls t h ∙ ap (option_map (group_of t)) (sym e))
-        ∙ ap (λ b. guard b (lookup (links_of ls t).modules (length (links_of ls t).modules) (record { name = x; version = any_version }) (group_of t g).members)) b
-        ∙ ap (λ n. lookup (links_of ls t).modules n (record { name = x; version = any_version }) (group_of t g).members) (modules_len ls t))
+    by : Option Group → Option Place
+    by o = guard (opt o false (λ g. g.opened)) (lookup (links_of ls t).modules (length (links_of ls t).modules) (record { name = x; version = any_version }) (opt o [] (λ g. g.members)))
+
+    at : (b : Bool) (g : groups.Group) (n : ℕ) → found n (guard b (Some g)) ≡ guard b (looked n g)
+    at true g n = refl
+    at false g n = refl
+
+    go : (r : Option (List ℕ)) → found (length (links_of ls t).modules) (on_some (option_map group_at r) (λ g. guard g.opened (Some g))) ≡ by (option_map (group_of t) (option_map group_at r))
+    go None = refl
+    go (Some r) = at (group_at r).opened (group_at r) (length (links_of ls t).modules)

@@ -23,7 +23,9 @@ fn matches(mine: bool, symbol: Symbol<&[u8]>, definition: Definition<&[u8]>) -> 
 fn count_definitions<'t, L: Libraries<'t>>(libraries: &L, library: LibraryId) -> usize
     ensures { result ≡ length (library_at (L.libs libraries.now) library.0).defs }
 {
-    libraries.sizes(library).map_or(0, |sizes| sizes.definitions)
+    libraries
+        .sizes(library)
+        .map_or(0, |sizes| sizes.definitions)
 }
 
 // The cell of the first definition that a symbol asks for.

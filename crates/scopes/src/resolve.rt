@@ -49,10 +49,7 @@ pub fn find_in<'t, L: Libraries<'t>>(
 ) -> Option<Place>
     ensures { option_map place_of result ≡ found_in (links_of (L.libs libraries.now) tables.now) group name.now }
 {
-    let found = tables.group(group)?;
-    if !found.opened {
-        return None;
-    }
+    let found = tables.open_group(group)?;
     // No module has this number: what is inner to a library is not found.
     let search = Search {
         libraries,

@@ -1,10 +1,9 @@
 ghost use Rattle.std.specs.Prelude.{◌≡◌, None, cond};
 ghost use Rattle.std.specs.Option.{option_map};
-ghost use Rattle.library.specs.Views.{symbol_of};
 ghost use Rattle.links.specs.Scope.{global_members, members_of};
-ghost use Rattle.linkage.specs.Tables.{links_of, library_at, group_of};
+ghost use Rattle.linkage.specs.Tables.{library_at, group_of};
 ghost use Rattle.linkage.specs.Views.{place_of};
-ghost use Rattle.scopes.specs.Looks.{seen_in, looked, shared};
+ghost use Rattle.scopes.specs.Looks.{linked, seen, looked, shared};
 
 use crate::definitions::defined;
 use libraries::Libraries;
@@ -23,13 +22,10 @@ pub(crate) struct Search<'s, L> {
 
 impl<'s, 't, L: Libraries<'t>> Search<'s, L> {
     // What a module has for the symbol.
-    pub(crate) fn in_module(&self, number: usize) -> Option<Place>
-        ensures { option_map place_of result ≡ seen_in (links_of (L.libs self.now.libraries.now) self.now.tables.now).modules self.now.by (symbol_of (λ x. x.now) self.now.symbol) number }
+    fn in_module(&self, number: usize) -> Option<Place>
+        ensures { option_map place_of result ≡ seen (L.libs self.now.libraries.now) self.now number }
     {
-        let module = self.tables.module(number)?;
-        if !module.live {
-            return None;
-        }
+        let module = self.tables.live_module(number)?;
         let mine = self.by == number;
         let cell = defined(self.libraries, module.load.library, mine, self.symbol)?;
         Some(Place {
@@ -40,7 +36,7 @@ impl<'s, 't, L: Libraries<'t>> Search<'s, L> {
 
     // What the module that asks has itself, where its library is inward.
     pub(crate) fn in_itself(&self, library: LibraryId) -> Option<Place>
-        ensures { option_map place_of result ≡ cond (library_at (L.libs self.now.libraries.now) library.0).inward (seen_in (links_of (L.libs self.now.libraries.now) self.now.tables.now).modules self.now.by (symbol_of (λ x. x.now) self.now.symbol) self.now.by) None }
+        ensures { option_map place_of result ≡ cond (library_at (L.libs self.now.libraries.now) library.0).inward (seen (L.libs self.now.libraries.now) self.now self.now.by) None }
     {
         if self.libraries.inward(library).unwrap_or(false) {
             self.in_module(self.by)
@@ -64,7 +60,7 @@ impl<'s, 't, L: Libraries<'t>> Search<'s, L> {
 
     // The same of the members of group n.
     pub(crate) fn in_group(&self, n: usize) -> Option<Place>
-        ensures { option_map place_of result ≡ looked (L.libs self.now.libraries.now) self.now (members_of (links_of (L.libs self.now.libraries.now) self.now.tables.now).groups n) }
+        ensures { option_map place_of result ≡ looked (L.libs self.now.libraries.now) self.now (members_of (linked (L.libs self.now.libraries.now) self.now).groups n) }
     {
         self.in_members(self.tables.group(n)?)
     }
@@ -82,7 +78,7 @@ impl<'s, 't, L: Libraries<'t>> Search<'s, L> {
 
     // The same of all groups that are open and global, in the order of opening.
     pub(crate) fn in_globals(&self) -> Option<Place>
-        ensures { option_map place_of result ≡ looked (L.libs self.now.libraries.now) self.now (global_members (links_of (L.libs self.now.libraries.now) self.now.tables.now).groups) }
+        ensures { option_map place_of result ≡ looked (L.libs self.now.libraries.now) self.now (global_members (linked (L.libs self.now.libraries.now) self.now).groups) }
     {
         for n in 0..self.tables.groups.len {
             let place = self.in_shared(self.tables.group(n)?);
