@@ -1,16 +1,16 @@
 -- Lists looked through from an element on, and what of tables it stands for.
 use Rattle.std.specs.Prelude.{Bool, true, false, ◌==◌, None, Option, Some, cond, is_some, slice_get}
-use Rattle.std.specs.Option.{option_map, option_or, unwrap_or}
+use Rattle.std.specs.Option.{option_map, option_or}
 use Rattle.std.specs.List.{between}
 use Rattle.std.proofs.Common.{◌≡◌, ℕ, zero, suc, ◌+◌, ◌-◌, ◌<◌, ◌≤◌, List, [], ◌∷◌, ◌++◌, map, length, take, drop, sym, refl, ap, ◌∙◌, true≢false, arith}
 use Rattle.std.proofs.lemmas.Option.{same_Some, none-some, slice_get-map}
 use Rattle.base.specs.Choices.{opt, on_some, guard}
 use Rattle.library.specs.Library.{Library, Definition, Symbol, any_version}
-use Rattle.links.specs.Links.{Place, Module, Group, Links, place_at}
+use Rattle.links.specs.Links.{Place, Module, Group, place_at}
 use Rattle.links.specs.Symbols.{matches, find_def}
 use Rattle.links.specs.Scope.{lookup, global_members, members_of, resolve}
 use Rattle.links.specs.Close.{found_in}
-use Rattle.libraries.specs.Looks.{part_at, field_at}
+use Rattle.libraries.specs.Looks.{part_at}
 use Rattle.base.specs.Names.{Name}
 use Rattle.lent.specs.Tables.{rows_in}
 use Rattle.lent.proofs.Rows.{rows_past}
@@ -23,25 +23,22 @@ use Rattle.linkage.proofs.Numbered.{module_is, modules_len}
 use Rattle.scopes.specs.Looks.{seen_in, shared}
 
 -- a list from element i on
-pub drop_next : {A : Type 0} (xs : List A) (i : ℕ) (x : A) → Some x ≡ slice_get xs i → drop i xs ≡ x ∷ drop (i + 1) xs
+drop_next : {A : Type 0} (xs : List A) (i : ℕ) (x : A) → Some x ≡ slice_get xs i → drop i xs ≡ x ∷ drop (i + 1) xs
 drop_next [] i x e = absurd (none-some _ (sym e))
 drop_next (y ∷ ys) zero x e = ap (λ z. z ∷ ys) (same_Some _ _ (sym e))
 drop_next (y ∷ ys) (suc i) x e = drop_next ys i x e ∙ (let q : suc (i + 1) ≡ suc i + 1 = omega arith in ap (λ n. x ∷ drop n (y ∷ ys)) q)
 
-pub drop_past : {A : Type 0} (xs : List A) (i : ℕ) → None ≡ slice_get xs i → drop i xs ≡ []
+drop_past : {A : Type 0} (xs : List A) (i : ℕ) → None ≡ slice_get xs i → drop i xs ≡ []
 drop_past [] zero e = refl
 drop_past [] (suc i) e = refl
 drop_past (y ∷ ys) zero e = absurd (none-some _ e)
 drop_past (y ∷ ys) (suc i) e = drop_past ys i e
 
 -- elements i to before j
-pub between_next : {A : Type 0} (xs : List A) (i j : ℕ) (x : A) → i < j → Some x ≡ slice_get xs i → between i j xs ≡ x ∷ between (i + 1) j xs
+between_next : {A : Type 0} (xs : List A) (i j : ℕ) (x : A) → i < j → Some x ≡ slice_get xs i → between i j xs ≡ x ∷ between (i + 1) j xs
 between_next xs i j x h e = let q : j - i ≡ suc (j - (i + 1)) = omega arith in ap (take (j - i)) (drop_next xs i x e) ∙ ap (λ n. take n (x ∷ drop (i + 1) xs)) q
 
-pub between_end : {A : Type 0} (xs : List A) (i j : ℕ) → j ≤ i → between i j xs ≡ []
-between_end xs i j h = let q : j - i ≡ 0 = omega arith in ap (λ n. take n (drop i xs)) q
-
-pub between_past : {A : Type 0} (xs : List A) (i j : ℕ) → None ≡ slice_get xs i → between i j xs ≡ []
+between_past : {A : Type 0} (xs : List A) (i j : ℕ) → None ≡ slice_get xs i → between i j xs ≡ []
 between_past {A = A} xs i j e = ap (take (j - i)) (drop_past xs i e) ∙ take_none (j - i)
   where
     take_none : (n : ℕ) → ◌≡◌ {A = List A} (take n []) []
@@ -49,34 +46,34 @@ between_past {A = A} xs i j e = ap (take (j - i)) (drop_past xs i e) ∙ take_no
     take_none (suc n) = refl
 
 -- definition i is the one that is meant, or the next ones are looked at
-pub defs_of : (ls : List Library) (k i : ℕ) → part_at ls k (λ l. l.defs) i ≡ slice_get (library_at ls k).defs i
+defs_of : (ls : List Library) (k i : ℕ) → part_at ls k (λ l. l.defs) i ≡ slice_get (library_at ls k).defs i
 defs_of ls k i = go (slice_get ls k)
   where
     go : (o : Option Library) → on_some o (λ l. slice_get l.defs i) ≡ slice_get (opt o (library_at [] 0) (λ l. l)).defs i
     go None = refl
     go (Some l) = refl
 
-pub def_next : (mine : Bool) (ds : List Definition) (i : ℕ) (d : Definition) (s : Symbol) → Some d ≡ slice_get ds i → find_def mine (drop i ds) s ≡ cond (matches mine s d) (Some d.cell) (find_def mine (drop (i + 1) ds) s)
+def_next : (mine : Bool) (ds : List Definition) (i : ℕ) (d : Definition) (s : Symbol) → Some d ≡ slice_get ds i → find_def mine (drop i ds) s ≡ cond (matches mine s d) (Some d.cell) (find_def mine (drop (i + 1) ds) s)
 def_next mine ds i d s e = ap (λ xs. find_def mine xs s) (drop_next ds i d e)
 
 -- the first of two that there is
-pub opt_or : {A : Type 0} (o p : Option A) → opt o p Some ≡ option_or o p
+opt_or : {A : Type 0} (o p : Option A) → opt o p Some ≡ option_or o p
 opt_or None p = refl
 opt_or (Some x) p = refl
 
-pub or_or : {A : Type 0} (o p q : Option A) → option_or (option_or o p) q ≡ option_or o (option_or p q)
+or_or : {A : Type 0} (o p q : Option A) → option_or (option_or o p) q ≡ option_or o (option_or p q)
 or_or None p q = refl
 or_or (Some x) p q = refl
 
-pub or_none : {A : Type 0} (o : Option A) → option_or o None ≡ o
+or_none : {A : Type 0} (o : Option A) → option_or o None ≡ o
 or_none None = refl
 or_none (Some x) = refl
 
 -- modules looked through, one after the other
-pub lookup_next : (ms : List Module) (me : ℕ) (s : Symbol) (j : ℕ) (js : List ℕ) → lookup ms me s (j ∷ js) ≡ option_or (seen_in ms me s j) (lookup ms me s js)
+lookup_next : (ms : List Module) (me : ℕ) (s : Symbol) (j : ℕ) (js : List ℕ) → lookup ms me s (j ∷ js) ≡ option_or (seen_in ms me s j) (lookup ms me s js)
 lookup_next ms me s j js = opt_or (seen_in ms me s j) (lookup ms me s js)
 
-pub lookup-append : (ms : List Module) (me : ℕ) (s : Symbol) (xs ys : List ℕ) → lookup ms me s (xs ++ ys) ≡ option_or (lookup ms me s xs) (lookup ms me s ys)
+lookup-append : (ms : List Module) (me : ℕ) (s : Symbol) (xs ys : List ℕ) → lookup ms me s (xs ++ ys) ≡ option_or (lookup ms me s xs) (lookup ms me s ys)
 lookup-append ms me s [] ys = refl
 lookup-append ms me s (j ∷ js) ys =
     opt_or (seen_in ms me s j) (lookup ms me s (js ++ ys))
@@ -146,11 +143,8 @@ member_past ms me s rs i e r p inv = go (slice_get rs i) refl p
     go None q p = sym (ap (λ xs. lookup ms me s (map number_in xs)) (between_past rs i e (sym q))) ∙ inv
     go (Some x) q p = absurd (none-some _ p)
 
-pub members_end : (ms : List Module) (me : ℕ) (s : Symbol) (rs : List (List ℕ)) (i e : ℕ) (r : Option Place) → e ≤ i → lookup ms me s (map number_in (between i e rs)) ≡ r → None ≡ r
-members_end ms me s rs i e r h inv = sym (ap (λ xs. lookup ms me s (map number_in xs)) (between_end rs i e h)) ∙ inv
-
 -- a group, by what the tables say of it
-pub group_is : (ls : List Library) (t : Tables) (n : ℕ) → slice_get (links_of ls t).groups n ≡ option_map (group_of t) (option_map group_at (slice_get (rows_in 3 t.groups) n))
+group_is : (ls : List Library) (t : Tables) (n : ℕ) → slice_get (links_of ls t).groups n ≡ option_map (group_of t) (option_map group_at (slice_get (rows_in 3 t.groups) n))
 group_is ls t n = slice_get-map (λ r. group_of t (group_at r)) (rows_in 3 t.groups) n ∙ go (slice_get (rows_in 3 t.groups) n)
   where
     go : (o : Option (List ℕ)) → option_map (λ r. group_of t (group_at r)) o ≡ option_map (group_of t) (option_map group_at o)
@@ -173,47 +167,35 @@ group_past ls t me s n r e inv =
 pub groups_end : (ls : List Library) (t : Tables) (me : ℕ) (s : Symbol) (n : ℕ) (r : Option Place) → t.groups.len ≤ n → lookup (links_of ls t).modules me s (global_members (drop n (links_of ls t).groups)) ≡ r → None ≡ r
 groups_end ls t me s n r h inv = group_past ls t me s n r (sym (ap (option_map group_at) (rows_past 3 t.groups.words.now t.groups.len n h))) inv
 
--- whether a library is inward
-pub inward_is : (ls : List Library) (k : ℕ) → unwrap_or (field_at ls k (λ l. l.inward)) false ≡ (library_at ls k).inward
-inward_is ls k = go (slice_get ls k)
-  where
-    go : (o : Option Library) → unwrap_or (option_map (λ l. l.inward) o) false ≡ (opt o (library_at [] 0) (λ l. l)).inward
-    go None = refl
-    go (Some l) = refl
-
--- what module i looks through, by what is said of it
-abbrev scope_by : Links → ℕ → Option Module → List ℕ
-scope_by k i o = opt o [] (λ x. cond x.lib.inward (i ∷ []) [] ++ (global_members k.groups ++ members_of k.groups x.group))
-
 -- what a module looks through, part by part
-pub resolve_none : (ls : List Library) (t : Tables) (me : ℕ) (s : Symbol) → None ≡ option_map (module_at t me) (slice_get (rows_in 3 t.modules) me) → None ≡ resolve (links_of ls t) me s
-resolve_none ls t me s e = go (slice_get (rows_in 3 t.modules) me) refl e
+pub resolve_is : (ls : List Library) (t : Tables) (me : ℕ) (s : Symbol) (o : Option code.Module) → o ≡ option_map (module_at t me) (slice_get (rows_in 3 t.modules) me) → on_some o (λ m. option_or (cond (library_at ls m.load.library.0).inward (seen_in (links_of ls t).modules me s me) None) (option_or (lookup (links_of ls t).modules me s (global_members (links_of ls t).groups)) (lookup (links_of ls t).modules me s (members_of (links_of ls t).groups m.load.group)))) ≡ resolve (links_of ls t) me s
+resolve_is ls t me s o e = ap by_parts e ∙ go (slice_get (rows_in 3 t.modules) me) ∙ ap by_scope (sym (module_is ls t me))
   where
-    go : (o : Option (List ℕ)) → slice_get (rows_in 3 t.modules) me ≡ o → None ≡ option_map (module_at t me) o → None ≡ resolve (links_of ls t) me s
-    go None q p = sym (ap (λ o. lookup (links_of ls t).modules me s (scope_by (links_of ls t) me o)) (module_is ls t me ∙ ap (option_map (module_of ls t me)) q))
-    go (Some r) q p = absurd (none-some _ p)
+    ms : List Module
+    ms = (links_of ls t).modules
 
-pub resolve_is : (ls : List Library) (t : Tables) (me : ℕ) (s : Symbol) (m : code.Module) → Some m ≡ option_map (module_at t me) (slice_get (rows_in 3 t.modules) me) → option_or (cond (library_at ls m.load.library.0).inward (seen_in (links_of ls t).modules me s me) None) (option_or (lookup (links_of ls t).modules me s (global_members (links_of ls t).groups)) (lookup (links_of ls t).modules me s (members_of (links_of ls t).groups m.load.group))) ≡ resolve (links_of ls t) me s
-resolve_is ls t me s m e = go (slice_get (rows_in 3 t.modules) me) refl e
-  where
-    own : (b : Bool) → lookup (links_of ls t).modules me s (cond b (me ∷ []) []) ≡ cond b (seen_in (links_of ls t).modules me s me) None
-    own true = lookup_next (links_of ls t).modules me s me [] ∙ or_none (seen_in (links_of ls t).modules me s me)
+    gs : List Group
+    gs = (links_of ls t).groups
+
+    by_parts : Option code.Module → Option Place
+    by_parts o = on_some o (λ m. option_or (cond (library_at ls m.load.library.0).inward (seen_in ms me s me) None) (option_or (lookup ms me s (global_members gs)) (lookup ms me s (members_of gs m.load.group))))
+
+    by_scope : Option Module → Option Place
+    by_scope o = lookup ms me s (opt o [] (λ x. cond x.lib.inward (me ∷ []) [] ++ (global_members gs ++ members_of gs x.group)))
+
+    own : (b : Bool) → lookup ms me s (cond b (me ∷ []) []) ≡ cond b (seen_in ms me s me) None
+    own true = lookup_next ms me s me [] ∙ or_none (seen_in ms me s me)
     own false = refl
 
-    parts : code.Module → Option Place
-    parts m = option_or (cond (library_at ls m.load.library.0).inward (seen_in (links_of ls t).modules me s me) None) (option_or (lookup (links_of ls t).modules me s (global_members (links_of ls t).groups)) (lookup (links_of ls t).modules me s (members_of (links_of ls t).groups m.load.group)))
+    at : (b : Bool) (js : List ℕ) → lookup ms me s (cond b (me ∷ []) [] ++ (global_members gs ++ js)) ≡ option_or (cond b (seen_in ms me s me) None) (option_or (lookup ms me s (global_members gs)) (lookup ms me s js))
+    at b js =
+        lookup-append ms me s (cond b (me ∷ []) []) (global_members gs ++ js)
+        ∙ ap (λ o. option_or o (lookup ms me s (global_members gs ++ js))) (own b)
+        ∙ ap (option_or (cond b (seen_in ms me s me) None)) (lookup-append ms me s (global_members gs) js)
 
-    go : (o : Option (List ℕ)) → slice_get (rows_in 3 t.modules) me ≡ o → Some m ≡ option_map (module_at t me) o → parts m ≡ resolve (links_of ls t) me s
-    go None q p = absurd (none-some _ (sym p))
-    go (Some r) q p =
-        let ms = (links_of ls t).modules in
-        let gs = (links_of ls t).groups in
-        let x = module_of ls t me r in
-        ap parts (same_Some _ _ p)
-        ∙ sym (ap (λ o. lookup ms me s (scope_by (links_of ls t) me o)) (module_is ls t me ∙ ap (option_map (module_of ls t me)) q)
-        ∙ lookup-append ms me s (cond x.lib.inward (me ∷ []) []) (global_members gs ++ members_of gs x.group)
-        ∙ ap (λ o. option_or o (lookup ms me s (global_members gs ++ members_of gs x.group))) (own x.lib.inward)
-        ∙ ap (option_or (cond x.lib.inward (seen_in ms me s me) None)) (lookup-append ms me s (global_members gs) (members_of gs x.group)))
+    go : (r : Option (List ℕ)) → by_parts (option_map (module_at t me) r) ≡ by_scope (option_map (module_of ls t me) r)
+    go None = refl
+    go (Some r) = sym (at (module_of ls t me r).lib.inward (members_of gs (module_of ls t me r).group))
 
 -- what is found in a group
 pub found_is : (ls : List Library) (t : Tables) (h : ℕ) (x : Name) (o : Option groups.Group) → o ≡ open_in t h → on_some o (λ g. lookup (links_of ls t).modules t.modules.len (record { name = x; version = any_version }) (group_of t g).members) ≡ found_in (links_of ls t) h x
