@@ -1,7 +1,8 @@
 -- What the tables of what is loaded stand for.
-use Rattle.std.specs.Prelude.{false, List, [], ◌∷◌, ℕ, zero, suc, map, length, ◌==◌, slice_index, slice_index_or, slice_get, Option}
+use Rattle.std.specs.Prelude.{false, List, [], ◌∷◌, ℕ, zero, suc, map, length, ◌==◌, slice_index, slice_index_or, slice_get, Option, Some}
+use Rattle.std.specs.Option.{option_map}
 use Rattle.std.specs.List.{between}
-use Rattle.base.specs.Choices.{opt}
+use Rattle.base.specs.Choices.{opt, on_some, guard}
 use Rattle.library.specs.Library.{Library}
 use Rattle.links.specs.Links.{Place, Links}
 use Rattle.links.specs.Links as links
@@ -27,6 +28,14 @@ library_at ls k = opt (slice_get ls k) no_library (λ l. l)
 -- module i, by its row
 abbrev pub module_at : Tables → ℕ → List ℕ → Module
 module_at t i r = record { load = load_at r; live = (slice_index t.loaded.now (slice_index r 0) == suc i) }
+
+-- module i, if it is still there
+abbrev pub live_in : Tables → ℕ → Option Module
+live_in t i = on_some (option_map (module_at t i) (slice_get (rows_in 3 t.modules) i)) (λ m. guard m.live (Some m))
+
+-- group i, if it is open
+abbrev pub open_in : Tables → ℕ → Option Group
+open_in t i = on_some (option_map group_at (slice_get (rows_in 3 t.groups) i)) (λ g. guard g.opened (Some g))
 
 -- the number in a row
 abbrev pub number_in : List ℕ → ℕ

@@ -2,7 +2,7 @@ ghost use Rattle.std.specs.Prelude.{◌≡◌, slice_index, slice_get};
 ghost use Rattle.std.specs.Option.{option_map};
 ghost use Rattle.lent.specs.Tables.{rows_in};
 ghost use Rattle.linkage.specs.Rows.{group_at};
-ghost use Rattle.linkage.specs.Tables.{module_at};
+ghost use Rattle.linkage.specs.Tables.{module_at, live_in, open_in, number_in};
 
 use crate::types::{Group, Load, Module};
 use lent::table::Table;
@@ -41,10 +41,31 @@ impl<'a> Tables<'a> {
         })
     }
 
+    // Module i, if it is still there.
+    pub fn live_module(&self, i: usize) -> Option<Module>
+        ensures { result ≡ live_in self.now i }
+    {
+        self.module(i).filter(|module| module.live)
+    }
+
     // Group i.
     pub fn group(&self, i: usize) -> Option<Group>
         ensures { result ≡ option_map group_at (slice_get (rows_in 3 self.now.groups) i) }
     {
         Some(Group::decode(self.groups.row(i)?))
+    }
+
+    // Group i, if it is open.
+    pub fn open_group(&self, i: usize) -> Option<Group>
+        ensures { result ≡ open_in self.now i }
+    {
+        self.group(i).filter(|group| group.opened)
+    }
+
+    // The module that row i of the members says.
+    pub fn member(&self, i: usize) -> Option<usize>
+        ensures { result ≡ option_map number_in (slice_get (rows_in 1 self.now.members) i) }
+    {
+        Some(word(self.members.row(i)?, 0) as usize)
     }
 }

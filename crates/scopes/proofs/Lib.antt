@@ -1,0 +1,2 @@
+-- Lemmas on what is looked through.
+pub mod Looking

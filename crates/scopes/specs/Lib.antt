@@ -1,0 +1,2 @@
+-- What is looked through for a symbol.
+pub mod Looks
