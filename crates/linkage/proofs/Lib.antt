@@ -1,3 +1,4 @@
 -- Lemmas on the tables of what is loaded.
-pub mod Closed
+mod Bound
+mod Closed
 mod Found
