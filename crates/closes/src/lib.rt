@@ -1,0 +1,5 @@
+// What stays and what goes when a group is closed: found and done in lent words.
+#![tactic(auto)]
+
+pub mod refusals;
+pub mod staying;
