@@ -1,4 +1,5 @@
--- Lemmas on what stays.
+-- Lemmas on what stays and what goes.
 pub mod Gathering
+pub mod Going
 pub mod Growing
 pub mod Rows

@@ -1,2 +1,3 @@
--- What stays when a group is closed, as a set that grows.
+-- What stays and what goes when a group is closed.
 pub mod Staying
+pub mod Leaving
