@@ -117,7 +117,7 @@ grows_on k n t s i xs ys e z b a q g = subst (Grows k s) (sym q) (subst (λ m. G
     asked : take (suc t) next ≡ take t xs ++ i ∷ []
     asked = gathered_take (length k.modules) (suc t) more xs (omega (arith, slice_get_within xs t i a)) ∙ take_next xs t i a
 
-same_bool : (a b : Bool) → (a ≡ true → b ≡ true) → (b ≡ true → a ≡ true) → a ≡ b
+pub same_bool : (a b : Bool) → (a ≡ true → b ≡ true) → (b ≡ true → a ≡ true) → a ≡ b
 same_bool true b f g = sym (f refl)
 same_bool false true f g = g refl
 same_bool false false f g = refl

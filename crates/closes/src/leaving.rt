@@ -37,7 +37,11 @@ fn leave(tables: &Tables, stays: &Once, row: usize, left: &mut Table<1>) -> Resu
 }
 
 // The modules that go, in the order of initialisation.
-pub fn leaving<'w>(tables: &Tables, stays: &Once, words: &'w mut [u64]) -> Result<Table<'w, 1>, Full>
+pub fn leaving<'w>(
+    tables: &Tables,
+    stays: &Once,
+    words: &'w mut [u64],
+) -> Result<Table<'w, 1>, Full>
     ensures room { (ls : List Library) → is_ok result ≡ nat_le (length (leavers (links_of ls tables.now) (numbers stays.now))) (length words.old) }
     ensures leavers { (ls : List Library) → IfOk result (λ t. column t ≡ leavers (links_of ls tables.now) (numbers stays.now)) }
     ensures leaving { (ls : List Library) → Stays (links_of ls tables.now) (numbers stays.now) → IfOk result (λ t. column t ≡ close.leaving (links_of ls tables.now)) }

@@ -4,3 +4,4 @@
 pub mod leaving;
 pub mod refusals;
 pub mod staying;
+pub mod unloading;
