@@ -1,8 +1,8 @@
 -- What a row of bindings says.
-use Rattle.std.specs.Prelude.{Option, None, Some, slice_get, slice_index, slice_index_or, unwrap_or}
-use Rattle.std.proofs.Common.{◌≡◌, ℕ, suc, ◌-◌, ◌<◌, ◌≤◌, List, [], sym, ap, ◌∙◌, arith}
+use Rattle.std.specs.Prelude.{None, Some, slice_get, slice_index, slice_index_or, unwrap_or}
+use Rattle.std.proofs.Common.{◌≡◌, ℕ, suc, List, [], sym, ap, ◌∙◌}
 use Rattle.std.proofs.lemmas.Option.{get_or_from_slice_get, unwrap_or-slice_get}
-use Rattle.links.specs.Links.{Place, place_at}
+use Rattle.links.specs.Links.{place_at}
 use Rattle.linkage.specs.Rows.{bound_by, binding_at}
 
 -- beyond the rows

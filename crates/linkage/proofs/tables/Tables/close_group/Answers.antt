@@ -1,4 +1,4 @@
-use Rattle.std.proofs.Common.{◌≡◌, List, ℕ, [], sym, ap, ◌∙◌}
+use Rattle.std.proofs.Common.{List, [], sym, ap, ◌∙◌}
 use Rattle.links.specs.Links as links
 use Rattle.links.specs.Close.{closed_group}
 use Rattle.lent.specs.Tables.{rows_in}
