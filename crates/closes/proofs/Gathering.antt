@@ -6,9 +6,11 @@ use Rattle.std.proofs.lemmas.List.{append-nil, take-append-le}
 use Rattle.base.specs.Lists.{has, Within}
 use Rattle.base.proofs.Sets.{has_here, has_there}
 use Rattle.lent.specs.Once.{joined}
+use Rattle.lent.specs.Numbers.{numbers, limit}
+use Rattle.lent.specs.declared.once.Once.{Once}
 use Rattle.links.proofs.Leaving.{has-append, has_left, has_right}
 use Rattle.links.proofs.Numbers.{has_none, has_cases}
-use Rattle.closes.specs.Staying.{gathered, WithinBelow}
+use Rattle.closes.specs.Staying.{gathered, Added, WithinBelow}
 
 -- one number
 step_grows : (n j : ℕ) (seen : List ℕ) → (more : List ℕ) × (cond (nat_lt j n) (joined j seen) seen ≡ seen ++ more)
@@ -67,3 +69,7 @@ gathered_from n (i ∷ js) seen j e = ⊎_elim
 pub gathered-append : (n : ℕ) (is js seen : List ℕ) → gathered n (is ++ js) seen ≡ gathered n js (gathered n is seen)
 gathered-append n [] js seen = refl
 gathered-append n (i ∷ is) js seen = gathered-append n is js (cond (nat_lt i n) (joined i seen) seen)
+
+-- nothing came
+pub none_added : (o : Once) (js : List ℕ) → js ≡ [] → Added o o js
+none_added o js e = record { numbers = sym (ap (λ is. gathered (limit o) is (numbers o)) e); limit = refl; taken = refl }

@@ -1,7 +1,7 @@
 -- Modules that are gone.
 use Rattle.std.specs.Prelude.{Bool, true, false, not, ◌&&◌, None, Option, Some, cond, filter, is_some, slice_get, slice_set, slice_index}
 use Rattle.std.specs.Option.{option_map}
-use Rattle.std.proofs.Common.{◌≡◌, ℕ, zero, suc, ◌+◌, ◌<◌, ◌≤◌, eqb, ⊎_elim, List, [], ◌∷◌, ◌++◌, length, drop, sym, refl, ap, ◌∙◌, subst, add-one, arith}
+use Rattle.std.proofs.Common.{◌≡◌, ℕ, zero, suc, ◌+◌, ◌<◌, ◌≤◌, eqb, ⊎_elim, List, [], ◌∷◌, ◌++◌, length, drop, sym, refl, ap, ◌∙◌, arith}
 use Rattle.std.proofs.lemmas.Bool.{cases_Bool, cases_eq, cases_lt, eqb-true, ne_eqb, and_parts}
 use Rattle.std.proofs.lemmas.List.{get_or-set_same, get_or-set_other, get_or_past, drop_all, length-set}
 use Rattle.std.proofs.lemmas.Option.{none-some, same_Some}
@@ -14,14 +14,14 @@ use Rattle.links.specs.Links.{Links, with_modules}
 use Rattle.links.specs.Scope.{live_at}
 use Rattle.links.specs.Close.{unloaded, unload_all, leaving}
 use Rattle.links.specs.Close as close
-use Rattle.links.specs.Whole.{Live, staying}
+use Rattle.links.specs.Whole.{Live}
 use Rattle.links.proofs.Lives.{live_is, is_live, unload_inv}
 use Rattle.links.proofs.Numbers.{has-keep, keep-has}
 use Rattle.linkage.specs.Tables.{numbered, bindings_from, library_at, module_at, module_of, links_of}
 use Rattle.linkage.specs.declared.types.Module.{Module}
 use Rattle.linkage.specs.declared.tables.Tables.{Tables}
 use Rattle.closes.specs.Staying.{none_or_one, Stays}
-use Rattle.closes.specs.Leaving.{goes, leavers, gone, IsOrdered}
+use Rattle.closes.specs.Leaving.{goes, gone, IsOrdered}
 use Rattle.closes.proofs.Going.{filter_next, filter_same, leavers_leave}
 use Rattle.closes.proofs.Growing.{same_bool}
 

@@ -3,6 +3,8 @@ use Rattle.std.specs.Prelude.{◌≡◌, ℕ, ◌<◌, true, List, [], ◌∷◌
 use Rattle.base.specs.Choices.{opt}
 use Rattle.base.specs.Lists.{has}
 use Rattle.lent.specs.Once.{joined}
+use Rattle.lent.specs.Numbers.{numbers, limit}
+use Rattle.lent.specs.declared.once.Once.{Once}
 use Rattle.links.specs.Links.{Module, Group, Links}
 use Rattle.links.specs.Scope.{live_at}
 use Rattle.links.specs.Close.{hosts}
@@ -25,6 +27,12 @@ none_or_one (Some j) = j ∷ []
 abbrev pub gathered : ℕ → List ℕ → List ℕ → List ℕ
 gathered n [] seen = seen
 gathered n (j ∷ js) seen = gathered n js (cond (nat_lt j n) (joined j seen) seen)
+
+-- the numbers of js were put behind those that had come
+pub record Added (before after : Once) (js : List ℕ) : Type 0 where
+  pub numbers : numbers after ≡ gathered (limit before) js (numbers before)
+  pub limit : limit after ≡ limit before
+  pub taken : after.taken ≡ before.taken
 
 -- every number of xs below n is in ys
 abbrev pub WithinBelow : ℕ → List ℕ → List ℕ → Type 0

@@ -3,8 +3,8 @@ ghost use Rattle.library.specs.Library.{Library};
 ghost use Rattle.lent.specs.Numbers.{numbers};
 ghost use Rattle.links.specs.Close as close;
 ghost use Rattle.linkage.specs.Tables.{links_of};
-ghost use Rattle.closes.specs.Staying.{none_or_one, Stays};
-ghost use Rattle.closes.specs.Leaving.{goes, leavers, column};
+ghost use Rattle.closes.specs.Staying.{Stays};
+ghost use Rattle.closes.specs.Leaving.{goes, leavers, leaver_at, column};
 
 use lent::once::Once;
 use lent::refusals::Full;
@@ -24,7 +24,7 @@ pub fn leaves(tables: &Tables, stays: &Once, id: usize) -> bool
 
 // The module in a row of the order is put behind the others, if it goes.
 fn leave(tables: &Tables, stays: &Once, row: usize, left: &mut Table<1>) -> Result<(), Full>
-    ensures column { (ls : List Library) → MatchResult result (λ _. column left.new ≡ column left.old ++ filter (goes (links_of ls tables.now).modules (numbers stays.now)) (none_or_one (slice_get (links_of ls tables.now).order row))) (λ _. (length left.old.words.now ≤ left.old.len) × (1 ≤ length (filter (goes (links_of ls tables.now).modules (numbers stays.now)) (none_or_one (slice_get (links_of ls tables.now).order row))))) }
+    ensures column { (ls : List Library) → MatchResult result (λ _. column left.new ≡ column left.old ++ leaver_at (links_of ls tables.now) (numbers stays.now) row) (λ _. (length left.old.words.now ≤ left.old.len) × (1 ≤ length (leaver_at (links_of ls tables.now) (numbers stays.now) row))) }
     ensures size { length left.new.words.now ≡ length left.old.words.now }
 {
     let Some(id) = number(&tables.order, row) else {

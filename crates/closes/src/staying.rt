@@ -2,12 +2,12 @@ ghost use Rattle.std.specs.Prelude.{◌≡◌, ℕ, min, List, [], map, length, 
 ghost use Rattle.std.specs.List.{between};
 ghost use Rattle.std.specs.Option.{option_map};
 ghost use Rattle.library.specs.Library.{Library};
-ghost use Rattle.lent.specs.Numbers.{numbers, limit};
+ghost use Rattle.lent.specs.Numbers.{numbers};
 ghost use Rattle.lent.specs.Tables.{rows_in};
 ghost use Rattle.links.specs.Close.{open_members, hosts};
 ghost use Rattle.linkage.specs.Rows.{binding_at};
 ghost use Rattle.linkage.specs.Tables.{links_of, library_at, number_in, bindings_from};
-ghost use Rattle.closes.specs.Staying.{bound_of_one, open_at, none_or_one, gathered, Stays};
+ghost use Rattle.closes.specs.Staying.{bound_of_one, open_at, none_or_one, Added, Stays};
 
 use crate::refusals::TooFewWords;
 use lent::once::Once;
@@ -18,9 +18,7 @@ use linkage::tables::Tables;
 
 // The number is put behind the others, where there is one; one that is no module's is skipped.
 fn keep(member: Option<usize>, stays: &mut Once)
-    ensures numbers { numbers stays.new ≡ gathered (limit stays.old) (none_or_one member) (numbers stays.old) }
-    ensures limit { limit stays.new ≡ limit stays.old }
-    ensures taken { stays.new.taken ≡ stays.old.taken }
+    ensures { Added stays.old stays.new (none_or_one member) }
 {
     if let Some(member) = member {
         let _ = stays.add(member);
@@ -29,9 +27,7 @@ fn keep(member: Option<usize>, stays: &mut Once)
 
 // Members from a row on, to before another, are put behind the others.
 fn keep_members(tables: &Tables, first: usize, end: usize, stays: &mut Once)
-    ensures numbers { numbers stays.new ≡ gathered (limit stays.old) (map number_in (between first end (rows_in 1 tables.now.members))) (numbers stays.old) }
-    ensures limit { limit stays.new ≡ limit stays.old }
-    ensures taken { stays.new.taken ≡ stays.old.taken }
+    ensures { Added stays.old stays.new (map number_in (between first end (rows_in 1 tables.now.members))) }
 {
     for row in first..end.min(tables.members.len) {
         keep(number(&tables.members, row), stays);
@@ -40,9 +36,7 @@ fn keep_members(tables: &Tables, first: usize, end: usize, stays: &mut Once)
 
 // The members of a group are put behind the others, if it is open.
 fn keep_group(tables: &Tables, group: usize, stays: &mut Once)
-    ensures numbers { (ls : List Library) → numbers stays.new ≡ gathered (limit stays.old) (open_at (links_of ls tables.now).groups group) (numbers stays.old) }
-    ensures limit { limit stays.new ≡ limit stays.old }
-    ensures taken { stays.new.taken ≡ stays.old.taken }
+    ensures { (ls : List Library) → Added stays.old stays.new (open_at (links_of ls tables.now).groups group) }
 {
     let Some(found) = tables.group(group) else {
         return;
@@ -54,9 +48,7 @@ fn keep_group(tables: &Tables, group: usize, stays: &mut Once)
 
 // The members of open groups are put behind the others.
 fn keep_open(tables: &Tables, stays: &mut Once)
-    ensures numbers { (ls : List Library) → numbers stays.new ≡ gathered (limit stays.old) (open_members (links_of ls tables.now).groups) (numbers stays.old) }
-    ensures limit { limit stays.new ≡ limit stays.old }
-    ensures taken { stays.new.taken ≡ stays.old.taken }
+    ensures { (ls : List Library) → Added stays.old stays.new (open_members (links_of ls tables.now).groups) }
 {
     for group in 0..tables.groups.len {
         keep_group(tables, group, stays);
@@ -73,9 +65,7 @@ fn host_at(tables: &Tables, address: usize) -> Option<usize>
 
 // What so many cells from a word on are bound to is put behind the others.
 fn keep_hosts(tables: &Tables, base: usize, cells: usize, stays: &mut Once)
-    ensures numbers { numbers stays.new ≡ gathered (limit stays.old) (hosts (bindings_from (rows_in 2 tables.now.bindings) base cells)) (numbers stays.old) }
-    ensures limit { limit stays.new ≡ limit stays.old }
-    ensures taken { stays.new.taken ≡ stays.old.taken }
+    ensures { Added stays.old stays.new (hosts (bindings_from (rows_in 2 tables.now.bindings) base cells)) }
 {
     let end = base.saturating_add(cells).min(tables.bindings.len);
     for address in base..end {
@@ -92,9 +82,7 @@ fn count_cells<'t, L: Libraries<'t>>(libraries: &L, library: LibraryId) -> usize
 
 // What a module is bound to is put behind the others, unless the module went.
 fn keep_bound<'t, L: Libraries<'t>>(libraries: &L, tables: &Tables, kept: usize, stays: &mut Once)
-    ensures numbers { numbers stays.new ≡ gathered (limit stays.old) (bound_of_one (links_of (L.libs libraries.now) tables.now).modules kept) (numbers stays.old) }
-    ensures limit { limit stays.new ≡ limit stays.old }
-    ensures taken { stays.new.taken ≡ stays.old.taken }
+    ensures { Added stays.old stays.new (bound_of_one (links_of (L.libs libraries.now) tables.now).modules kept) }
 {
     let Some(module) = tables.module(kept) else {
         return;

@@ -1,11 +1,10 @@
-ghost use Rattle.std.specs.Prelude.{◌≡◌, List, [], ◌∷◌, not, filter, slice_get};
-ghost use Rattle.base.specs.Lists.{has};
+ghost use Rattle.std.specs.Prelude.{◌≡◌, List, [], ◌∷◌, slice_get};
 ghost use Rattle.library.specs.Library.{Library};
 ghost use Rattle.lent.specs.Numbers.{numbers};
 ghost use Rattle.links.specs.Close as close;
 ghost use Rattle.linkage.specs.Tables.{links_of};
 ghost use Rattle.closes.specs.Staying.{none_or_one, Stays};
-ghost use Rattle.closes.specs.Leaving.{column, gone, IsOrdered};
+ghost use Rattle.closes.specs.Leaving.{column, needless, gone, IsOrdered};
 
 use lent::once::Once;
 use lent::table::Table;
@@ -26,7 +25,7 @@ fn unload_one(tables: &mut Tables, id: usize)
 
 // The module in a row is gone, unless it stays.
 fn unload_row(tables: &mut Tables, stays: &Once, going: &Table<1>, row: usize)
-    ensures { (ls : List Library) → links_of ls tables.new ≡ gone (filter (λ j. not (has j (numbers stays.now))) (none_or_one (slice_get (column going.now) row))) (links_of ls tables.old) }
+    ensures { (ls : List Library) → links_of ls tables.new ≡ gone (needless (numbers stays.now) (none_or_one (slice_get (column going.now) row))) (links_of ls tables.old) }
 {
     let Some(id) = number(going, row) else {
         return;

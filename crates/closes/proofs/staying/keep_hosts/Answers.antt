@@ -18,9 +18,13 @@ loop-address-preserved c = record {
   limit = c.keep.ensures.limit ∙ c.loop-address.invariant.limit;
 }
 
-pub returns-clause-numbers : goal.returns-clause-numbers
-returns-clause-numbers c =
+pub returns : goal.returns
+returns c =
     let t = c.args.tables.now in
     let count = rows_len 2 t.bindings.words.now t.bindings.len in
     let past : min (c.args.base + c.args.cells) (length (rows_in 2 t.bindings)) ≤ c.loop-address.address = omega (arith, count, t.bindings.fits, c.loop-address-test.false, c.min-end.ensures, c.saturating_add.ensures) in
-    sym (hosts_end (rows_in 2 t.bindings) c.loop-address.address (c.args.base + c.args.cells) (limit c.args.stays.now) (numbers c.loop-address.stays) past) ∙ c.loop-address.invariant.so_far
+    record {
+      numbers = sym (hosts_end (rows_in 2 t.bindings) c.loop-address.address (c.args.base + c.args.cells) (limit c.args.stays.now) (numbers c.loop-address.stays) past) ∙ c.loop-address.invariant.so_far;
+      limit = c.loop-address.invariant.limit;
+      taken = c.loop-address.invariant.taken;
+    }

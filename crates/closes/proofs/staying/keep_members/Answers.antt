@@ -20,9 +20,13 @@ loop-row-preserved c =
       limit = c.keep.ensures.limit ∙ c.loop-row.invariant.limit;
     }
 
-pub returns-clause-numbers : goal.returns-clause-numbers
-returns-clause-numbers c =
+pub returns : goal.returns
+returns c =
     let t = c.args.tables.now in
     let rs = rows_in 1 t.members in
     let past : min c.args.end (length rs) ≤ c.loop-row.row = omega (arith, c.loop-row-test.false, c.min-row-end.ensures, rows_len 1 t.members.words.now t.members.len) in
-    sym (members_end rs c.loop-row.row c.args.end (limit c.args.stays.now) (numbers c.loop-row.stays) past) ∙ c.loop-row.invariant.so_far
+    record {
+      numbers = sym (members_end rs c.loop-row.row c.args.end (limit c.args.stays.now) (numbers c.loop-row.stays) past) ∙ c.loop-row.invariant.so_far;
+      limit = c.loop-row.invariant.limit;
+      taken = c.loop-row.invariant.taken;
+    }

@@ -1,4 +1,4 @@
-use Rattle.std.proofs.Common.{◌≡◌, ◌<◌, ◌≤◌, List, length, sym, ap, ◌∙◌, arith}
+use Rattle.std.proofs.Common.{◌≡◌, ◌<◌, ◌≤◌, List, [], length, sym, ap, ◌∙◌, arith}
 use Rattle.std.proofs.lemmas.List.{length-map}
 use Rattle.library.specs.Library.{Library}
 use Rattle.lent.specs.Numbers.{numbers, limit}
@@ -20,14 +20,18 @@ loop-group-preserved c = record {
       let gs = (links_of ls c.args.tables.now).groups in
       let here : c.loop-group.group < length gs = omega (arith, groups_count ls c.args.tables.now, c.loop-group-test.true) in
       groups_next gs c.loop-group.group (limit c.args.stays.now) (numbers c.loop-group.stays) (numbers c.keep_group.new.stays) here
-      (c.keep_group.ensures.numbers ls ∙ ap (λ n. gathered n (open_at gs c.loop-group.group) (numbers c.loop-group.stays)) c.loop-group.invariant.limit)
+      ((c.keep_group.ensures ls).numbers ∙ ap (λ n. gathered n (open_at gs c.loop-group.group) (numbers c.loop-group.stays)) c.loop-group.invariant.limit)
       ∙ c.loop-group.invariant.so_far ls;
-  taken = c.keep_group.ensures.taken ∙ c.loop-group.invariant.taken;
-  limit = c.keep_group.ensures.limit ∙ c.loop-group.invariant.limit;
+  taken = (c.keep_group.ensures []).taken ∙ c.loop-group.invariant.taken;
+  limit = (c.keep_group.ensures []).limit ∙ c.loop-group.invariant.limit;
 }
 
-pub returns-clause-numbers : goal.returns-clause-numbers
-returns-clause-numbers c ls =
+pub returns : goal.returns
+returns c ls =
     let gs = (links_of ls c.args.tables.now).groups in
     let past : length gs ≤ c.loop-group.group = omega (arith, groups_count ls c.args.tables.now, c.loop-group-test.false) in
-    sym (groups_end gs c.loop-group.group (limit c.args.stays.now) (numbers c.loop-group.stays) past) ∙ c.loop-group.invariant.so_far ls
+    record {
+      numbers = sym (groups_end gs c.loop-group.group (limit c.args.stays.now) (numbers c.loop-group.stays) past) ∙ c.loop-group.invariant.so_far ls;
+      limit = c.loop-group.invariant.limit;
+      taken = c.loop-group.invariant.taken;
+    }

@@ -20,8 +20,8 @@ loop-kept-init g c =
     let ls = g.L.Libraries.libs c.args.libraries.now in
     let limit : limit c.new-stays.result ≡ c.args.tables.now.modules.len = omega (arith, c.new-stays.ensures.limit, c.if-words-count.false, c.if-marks-count.false, length-take-le c.args.tables.now.modules.len c.args.marks.now c.if-marks-count.false) in
     record {
-      grows = grows_first (links_of ls c.args.tables.now) _ _ (numbers c.new-stays.result) _ (limit ∙ modules_count ls c.args.tables.now) (c.keep_open.ensures.taken ∙ c.new-stays.ensures.taken) c.new-stays.ensures.numbers (c.keep_open.ensures.numbers ls);
-      limit = c.keep_open.ensures.limit ∙ limit;
+      grows = grows_first (links_of ls c.args.tables.now) _ _ (numbers c.new-stays.result) _ (limit ∙ modules_count ls c.args.tables.now) ((c.keep_open.ensures ls).taken ∙ c.new-stays.ensures.taken) c.new-stays.ensures.numbers (c.keep_open.ensures ls).numbers;
+      limit = (c.keep_open.ensures ls).limit ∙ limit;
     }
 
 pub loop-kept-preserved : goal.loop-kept-preserved
