@@ -4,4 +4,6 @@
 pub mod leaving;
 pub mod refusals;
 pub mod staying;
+#[cfg(test)]
+mod tests;
 pub mod unloading;
