@@ -1,6 +1,7 @@
 // What is loaded and bound, in lent words: modules and groups looked up by number.
 #![tactic(auto)]
 
+pub mod closing;
 mod rows;
 pub mod tables;
 pub mod types;
