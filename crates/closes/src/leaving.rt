@@ -9,8 +9,7 @@ ghost use Rattle.closes.specs.Leaving.{goes, leavers, leaver_at, column};
 use lent::once::Once;
 use lent::refusals::Full;
 use lent::table::Table;
-use linkage::closing::number;
-use linkage::tables::Tables;
+use linkage::tables::{Tables, number};
 
 // Whether a module goes: it is there, and doesn't stay.
 pub fn leaves(tables: &Tables, stays: &Once, id: usize) -> bool

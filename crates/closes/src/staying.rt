@@ -13,8 +13,7 @@ use crate::refusals::TooFewWords;
 use lent::once::Once;
 use libraries::Libraries;
 use library::types::LibraryId;
-use linkage::closing::number;
-use linkage::tables::Tables;
+use linkage::tables::{Tables, number};
 
 // The number is put behind the others, where there is one; one that is no module's is skipped.
 fn keep(member: Option<usize>, stays: &mut Once)

@@ -8,8 +8,7 @@ ghost use Rattle.closes.specs.Leaving.{column, needless, gone, IsOrdered};
 
 use lent::once::Once;
 use lent::table::Table;
-use linkage::closing::number;
-use linkage::tables::Tables;
+use linkage::tables::{Tables, number};
 
 // The module is gone: it isn't the live one of its library any more.
 fn unload_one(tables: &mut Tables, id: usize)

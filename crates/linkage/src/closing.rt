@@ -1,15 +1,14 @@
-ghost use Rattle.std.specs.Prelude.{◌≡◌, List, [], slice_get, slice_index_or};
+ghost use Rattle.std.specs.Prelude.{◌≡◌, List, [], slice_index_or};
 ghost use Rattle.std.specs.Option.{option_map};
 ghost use Rattle.lent.specs.Tables.{rows_in};
 ghost use Rattle.library.specs.Library.{Library};
 ghost use Rattle.links.specs.Close as close;
 ghost use Rattle.linkage.specs.Rows.{binding_at};
-ghost use Rattle.linkage.specs.Tables.{links_of, number_in};
+ghost use Rattle.linkage.specs.Tables.{links_of};
 ghost use Rattle.linkage.specs.Views.{place_of};
 
 use crate::tables::{Tables, word};
 use crate::types::{Group, Place};
-use lent::table::Table;
 use rows::row::Row;
 
 impl<'a> Tables<'a> {
@@ -45,12 +44,4 @@ impl<'a> Tables<'a> {
             cell: word(row, 1) as usize,
         })
     }
-}
-
-// The number in a row of numbers.
-pub fn number(table: &Table<1>, row: usize) -> Option<usize>
-    ensures { result ≡ option_map number_in (slice_get (rows_in 1 table.now) row) }
-{
-    let row = table.row(row)?;
-    Some(word(row, 0) as usize)
 }

@@ -2,6 +2,6 @@
 #![tactic(auto)]
 
 pub mod closing;
-mod rows;
+mod encoding;
 pub mod tables;
 pub mod types;

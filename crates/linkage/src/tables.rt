@@ -29,6 +29,14 @@ pub fn word(words: &[u64], i: usize) -> u64
     words.get(i).copied().unwrap_or(0)
 }
 
+// The number in a row of numbers.
+pub fn number(table: &Table<1>, row: usize) -> Option<usize>
+    ensures { result ≡ option_map number_in (slice_get (rows_in 1 table.now) row) }
+{
+    let row = table.row(row)?;
+    Some(word(row, 0) as usize)
+}
+
 impl<'a> Tables<'a> {
     // Module i.
     pub fn module(&self, i: usize) -> Option<Module>
@@ -66,6 +74,6 @@ impl<'a> Tables<'a> {
     pub fn member(&self, i: usize) -> Option<usize>
         ensures { result ≡ option_map number_in (slice_get (rows_in 1 self.now.members) i) }
     {
-        Some(word(self.members.row(i)?, 0) as usize)
+        number(&self.members, i)
     }
 }

@@ -13,7 +13,8 @@ use library::types::Symbol;
 use linkage::tables::Tables;
 use linkage::types::Place;
 
-// The place that a symbol means to module `me`.
+// The place that a symbol means to module `me`. By early returns: a closure for `or_else` would hold the search, and has no name
+// for its lifetimes.
 pub fn resolve<'t, L: Libraries<'t>>(
     libraries: &L,
     tables: &Tables,
