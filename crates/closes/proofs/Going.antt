@@ -10,7 +10,7 @@ use Rattle.std.proofs.lemmas.Option.{none-some, same_Some, slice_get_past}
 use Rattle.base.specs.Choices.{on_some, guard}
 use Rattle.base.specs.Lists.{has}
 use Rattle.library.specs.Library.{Library}
-use Rattle.lent.specs.Tables.{rows_in}
+use Rattle.lent.specs.Tables.{rows_in, column}
 use Rattle.lent.specs.declared.table.Table.{Table}
 use Rattle.lent.specs.declared.refusals.Full.{Full}
 use Rattle.links.specs.Links as links
@@ -22,7 +22,7 @@ use Rattle.linkage.specs.Tables.{number_in, module_at, module_of, links_of}
 use Rattle.linkage.specs.declared.types.Module.{Module}
 use Rattle.linkage.specs.declared.tables.Tables.{Tables}
 use Rattle.closes.specs.Staying.{none_or_one, Stays}
-use Rattle.closes.specs.Leaving.{goes, leavers, column}
+use Rattle.closes.specs.Leaving.{goes, leavers}
 use Rattle.closes.proofs.Rows.{slice_get-numbered}
 
 -- whether a module is there, as the tables say it

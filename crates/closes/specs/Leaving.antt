@@ -1,13 +1,10 @@
 -- The modules that go.
-use Rattle.std.specs.Prelude.{◌≡◌, ℕ, Bool, true, not, ◌&&◌, List, map, filter, is_some, slice_get}
+use Rattle.std.specs.Prelude.{◌≡◌, ℕ, Bool, true, not, ◌&&◌, List, filter, is_some, slice_get}
 use Rattle.base.specs.Lists.{has}
-use Rattle.lent.specs.Tables.{rows_in}
-use Rattle.lent.specs.declared.table.Table.{Table}
 use Rattle.links.specs.Links.{Module, Links, with_modules}
 use Rattle.links.specs.Scope.{live_at}
 use Rattle.links.specs.Close.{unload_all}
 use Rattle.links.specs.Whole.{Live}
-use Rattle.linkage.specs.Tables.{number_in}
 use Rattle.closes.specs.Staying.{none_or_one}
 
 -- whether the module j goes, where those of xs stay
@@ -25,10 +22,6 @@ leaver_at k xs i = filter (goes k.modules xs) (none_or_one (slice_get k.order i)
 -- those of js that aren't in xs
 abbrev pub needless : List ℕ → List ℕ → List ℕ
 needless xs js = filter (λ j. not (has j xs)) js
-
--- the numbers of a table's rows
-abbrev pub column : Table 1 → List ℕ
-column t = map number_in (rows_in 1 t)
 
 -- the modules of js, gone
 abbrev pub gone : List ℕ → Links → Links

@@ -4,7 +4,8 @@ ghost use Rattle.lent.specs.Numbers.{numbers};
 ghost use Rattle.links.specs.Close as close;
 ghost use Rattle.linkage.specs.Tables.{links_of};
 ghost use Rattle.closes.specs.Staying.{Stays};
-ghost use Rattle.closes.specs.Leaving.{goes, leavers, leaver_at, column};
+ghost use Rattle.lent.specs.Tables.{column};
+ghost use Rattle.closes.specs.Leaving.{goes, leavers, leaver_at};
 
 use lent::once::Once;
 use lent::refusals::Full;

@@ -4,7 +4,8 @@ ghost use Rattle.lent.specs.Numbers.{numbers};
 ghost use Rattle.links.specs.Close as close;
 ghost use Rattle.linkage.specs.Tables.{links_of};
 ghost use Rattle.closes.specs.Staying.{none_or_one, Stays};
-ghost use Rattle.closes.specs.Leaving.{column, needless, gone, IsOrdered};
+ghost use Rattle.lent.specs.Tables.{column};
+ghost use Rattle.closes.specs.Leaving.{needless, gone, IsOrdered};
 
 use lent::once::Once;
 use lent::table::Table;

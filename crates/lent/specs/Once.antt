@@ -1,5 +1,5 @@
 -- Numbers that come once each, and a mark at each that came.
-use Rattle.std.specs.Prelude.{◌≡◌, ℕ, ◌+◌, ◌<◌, Bool, not, List, [], ◌∷◌, ◌++◌, length, take, ◌==◌, cond, slice_index}
+use Rattle.std.specs.Prelude.{◌≡◌, ℕ, ◌+◌, ◌<◌, Bool, not, List, [], ◌∷◌, ◌++◌, length, ◌==◌, cond, slice_index}
 use Rattle.base.specs.Lists.{has}
 
 -- whether a word is a mark

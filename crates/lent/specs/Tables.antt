@@ -1,5 +1,5 @@
 -- Rows of a fixed width in a list of words.
-use Rattle.std.specs.Prelude.{ℕ, ◌+◌, ◌*◌, ◌≤◌, List, map, length}
+use Rattle.std.specs.Prelude.{ℕ, ◌+◌, ◌*◌, List, map, slice_index}
 use Rattle.lent.specs.declared.table.Table.{Table}
 use Rattle.std.specs.List.{range_with_len, between}
 
@@ -15,6 +15,6 @@ rows_of w ws n = map (row_at w ws) (range_with_len 0 n)
 abbrev pub rows_in : (w : ℕ) → Table w → List (List ℕ)
 rows_in w t = rows_of w t.words.now t.len
 
--- a table's rows lie within its words
-abbrev pub Fits : (w : ℕ) → Table w → Type 0
-Fits w t = w * t.len ≤ length t.words.now
+-- the numbers in the rows of one word
+abbrev pub column : Table 1 → List ℕ
+column t = map (λ r. slice_index r 0) (rows_in 1 t)

@@ -1,14 +1,14 @@
 -- Rows of a walk, the last one first.
-use Rattle.std.specs.Prelude.{None, Some, cond, slice_get, slice_set, slice_index, nat_le, nat_lt, true, ◌&&◌, Bool}
-use Rattle.std.proofs.Common.{◌≡◌, ℕ, zero, suc, ◌+◌, ◌-◌, ◌*◌, ◌<◌, ◌≤◌, List, [], ◌∷◌, ◌++◌, map, length, take, sym, refl, ap, ◌∙◌, arith}
+use Rattle.std.specs.Prelude.{Some, cond, slice_get, slice_set, slice_index, nat_le, nat_lt, true, ◌&&◌, Bool}
+use Rattle.std.proofs.Common.{◌≡◌, ℕ, zero, suc, ◌-◌, ◌<◌, ◌≤◌, List, [], ◌∷◌, ◌++◌, map, length, take, sym, refl, ap, ◌∙◌, arith}
 use Rattle.std.proofs.lemmas.List.{length-map, length_push, length-take-le, map-append, map-set, take-map}
 use Rattle.std.proofs.lemmas.Bool.{le-leb, lt-ltb, and_from}
 use Rattle.std.proofs.lemmas.Option.{same_Some, none-some}
 use Rattle.lent.specs.declared.once.Once.{Once}
-use Rattle.lent.specs.Numbers.{numbers, limit}
+use Rattle.lent.specs.Numbers.{numbers}
 use Rattle.lent.specs.declared.table.Table.{Table}
-use Rattle.lent.specs.Tables.{rows_in}
-use Rattle.needs.specs.Walks.{Entered, entered_in, entered_at, column}
+use Rattle.lent.specs.Tables.{rows_in, column}
+use Rattle.needs.specs.Walks.{Entered, entered_in, entered_at}
 use Rattle.lent.proofs.Rows.{rows_len}
 
 pub last_is : {X : Type 0} (xs : List X) (n : ℕ) (x : X) → length xs ≡ suc n → slice_get xs n ≡ Some x → xs ≡ take n xs ++ x ∷ []

@@ -1,9 +1,8 @@
 -- A walk through needs does what the definition of the order of initialisation does, task by task.
-use Rattle.std.specs.Prelude.{Bool, true, false, ◌||◌, None, Option, Some, cond, slice_get, slice_set}
-use Rattle.std.specs.List.{AllByRecursion}
-use Rattle.std.proofs.Common.{◌≡◌, ℕ, zero, suc, ◌+◌, ◌-◌, ◌<◌, ◌≤◌, eqb, ◌≢◌, ⊎_elim, List, [], ◌∷◌, ◌++◌, map, length, drop, take, sym, refl, ap, ◌∙◌, subst, append_assoc, arith}
+use Rattle.std.specs.Prelude.{Bool, true, false, ◌||◌, Some, cond, slice_get, slice_set}
+use Rattle.std.proofs.Common.{◌≡◌, ℕ, zero, suc, ◌+◌, ◌<◌, ◌≤◌, ⊎_elim, List, [], ◌∷◌, ◌++◌, map, length, drop, sym, refl, ap, ◌∙◌, subst, append_assoc, arith}
 use Rattle.std.proofs.ByRecursion.{All-push}
-use Rattle.std.proofs.lemmas.Bool.{cases_Bool, cases_eq, eq-eqb, ne_eqb}
+use Rattle.std.proofs.lemmas.Bool.{cases_Bool, eq-eqb, ne_eqb}
 use Rattle.std.proofs.lemmas.List.{map-append, length-append}
 use Rattle.std.proofs.lemmas.Option.{same_Some, none-some}
 use Rattle.base.specs.Choices.{opt}
@@ -16,9 +15,9 @@ use Rattle.lent.proofs.Marks.{has-push}
 use Rattle.links.specs.Closure.{Task, enter, leave, enters, depth, all_needs, init_order}
 use Rattle.needs.specs.Numbered.{name_at}
 use Rattle.needs.specs.Walks.{Entered, tasks_for, tasks_of, needs_at, ahead}
-use Rattle.needs.specs.Standing.{First, Alike, Stands, work}
+use Rattle.needs.specs.Standing.{First, Stands, work}
 use Rattle.needs.specs.Walks.{looked_on}
-use Rattle.needs.proofs.ByNumber.{number_is, number_name, number_first, has_among, alike_push, taken_drop, drop_past}
+use Rattle.needs.proofs.ByNumber.{number_is, number_name, number_first, has_among, alike_push, taken_drop}
 
 -- the last library's tasks come first
 pub tasks-push : (ls : List Library) (es : List Entered) (e : Entered) (ts : List Task) → tasks_of ls (es ++ e ∷ []) ts ≡ tasks_for ls e ++ tasks_of ls es ts

@@ -1,12 +1,12 @@
 -- A walk through needs, depth first, as rows hold it.
-use Rattle.std.specs.Prelude.{◌≡◌, ℕ, suc, ◌+◌, List, [], ◌∷◌, ◌++◌, map, length, drop, cond, Some, slice_get, slice_index}
+use Rattle.std.specs.Prelude.{ℕ, suc, ◌+◌, List, [], ◌∷◌, ◌++◌, map, length, drop, cond, slice_get, slice_index}
 use Rattle.base.specs.Choices.{opt}
 use Rattle.base.specs.Lists.{has}
 use Rattle.base.specs.Names.{Name}
 use Rattle.library.specs.Library.{Library}
 use Rattle.lent.specs.Tables.{rows_in}
 use Rattle.lent.specs.declared.table.Table.{Table}
-use Rattle.links.specs.Closure.{Task, enter, leave, enters}
+use Rattle.links.specs.Closure.{Task, leave, enters}
 use Rattle.needs.specs.Numbered.{name_at}
 
 -- a library that was entered and not left, and how many of its needs were looked at
@@ -21,10 +21,6 @@ entered_at r = record { library = slice_index r 0; looked = slice_index r 1 }
 -- the libraries that were entered and not left, the last one last
 abbrev pub entered_in : Table 2 → List Entered
 entered_in t = map entered_at (rows_in 2 t)
-
--- the numbers of a table's rows
-abbrev pub column : Table 1 → List ℕ
-column t = map (λ r. slice_index r 0) (rows_in 1 t)
 
 -- the names that library i needs
 abbrev pub needs_at : List Library → ℕ → List Name

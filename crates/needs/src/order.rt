@@ -7,7 +7,8 @@ ghost use Rattle.needs.specs.Numbered.{name_at};
 ghost use Rattle.needs.specs.Refusals.{IsMissing, Unordered};
 ghost use Rattle.needs.specs.Standing.{Stands, work};
 ghost use Rattle.needs.specs.Visits.{visit_of, walk_room};
-ghost use Rattle.needs.specs.Walks.{entered_in, column};
+ghost use Rattle.lent.specs.Tables.{column};
+ghost use Rattle.needs.specs.Walks.{entered_in};
 
 use crate::closure::{count_needs, need_number};
 use crate::faults::{MissingLibrary, NotGathered};
@@ -17,7 +18,11 @@ use libraries::Libraries;
 use library::types::LibraryId;
 
 // The next task of a walk: a need of the library that was entered last is looked at, or it is left.
-fn go_on<'t, L: Libraries<'t>>(libraries: &L, walk: &mut Walk, visit: Visit) -> Result<(), MissingLibrary>
+fn go_on<'t, L: Libraries<'t>>(
+    libraries: &L,
+    walk: &mut Walk,
+    visit: Visit,
+) -> Result<(), MissingLibrary>
     requires limit { limit walk.old.seen ≡ length (L.libs libraries.now) }
     requires last { entered_in walk.old.entered ≡ take (walk.old.entered.len - 1) (entered_in walk.old.entered) ++ visit_of visit ∷ [] }
     ensures limit { limit walk.new.seen ≡ limit walk.old.seen }

@@ -49,7 +49,8 @@ impl<'a> Walk<'a> {
     ghost use Rattle.base.specs.Lists.{has};
     ghost use Rattle.lent.specs.Numbers.{numbers, limit};
     ghost use Rattle.lent.specs.Once.{joined};
-    ghost use Rattle.needs.specs.Walks.{entered_in, column};
+    ghost use Rattle.lent.specs.Tables.{column};
+    ghost use Rattle.needs.specs.Walks.{entered_in};
     ghost use Rattle.needs.specs.Visits.{visit_of, walk_room};
 
     // Nothing is entered yet; of so many libraries.

@@ -2,9 +2,9 @@ use Rattle.std.proofs.Common.{◌++◌, sym, ap, ◌∙◌}
 use Rattle.std.proofs.lemmas.List.{append-nil}
 use Rattle.std.proofs.lemmas.Option.{slice_get-map}
 use Rattle.lent.specs.Numbers.{numbers}
-use Rattle.lent.specs.Tables.{rows_in}
+use Rattle.lent.specs.Tables.{rows_in, column}
 use Rattle.linkage.specs.Tables.{links_of, number_in}
-use Rattle.closes.specs.Leaving.{goes, column}
+use Rattle.closes.specs.Leaving.{goes}
 use Rattle.closes.proofs.Going.{kept_none, kept_one, pushed}
 use Rattle.closes.proofs.leaving.leave.Goals as goal
 

@@ -3,11 +3,11 @@ use Rattle.std.proofs.lemmas.Bool.{le-leb, lt-leb}
 use Rattle.std.proofs.lemmas.List.{length-map}
 use Rattle.library.specs.Library.{Library}
 use Rattle.lent.specs.Numbers.{numbers}
-use Rattle.lent.specs.Tables.{rows_in}
+use Rattle.lent.specs.Tables.{rows_in, column}
 use Rattle.lent.proofs.Rows.{rows_len}
 use Rattle.linkage.specs.Tables.{links_of, number_in}
 use Rattle.linkage.specs.declared.tables.Tables.{Tables}
-use Rattle.closes.specs.Leaving.{goes, leavers, column}
+use Rattle.closes.specs.Leaving.{goes, leavers}
 use Rattle.closes.proofs.Going.{leavers_on, leavers_end, leavers_full, leavers_leave, column_count, refused}
 use Rattle.closes.proofs.leaving.leaving.Goals as goal
 

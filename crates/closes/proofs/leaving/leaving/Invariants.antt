@@ -3,7 +3,8 @@ use Rattle.std.specs.Prelude.{filter}
 use Rattle.library.specs.Library.{Library}
 use Rattle.lent.specs.Numbers.{numbers}
 use Rattle.linkage.specs.Tables.{links_of}
-use Rattle.closes.specs.Leaving.{goes, leavers, column}
+use Rattle.lent.specs.Tables.{column}
+use Rattle.closes.specs.Leaving.{goes, leavers}
 use Rattle.closes.proofs.leaving.leaving.Given as goal
 
 abbrev pub invariant-loop-row : goal.invariant-loop-row

@@ -2,7 +2,7 @@ use Rattle.std.proofs.Common.{◌<◌, ◌≤◌, length, ◌∙◌, not, arith}
 use Rattle.base.specs.Lists.{has}
 use Rattle.lent.specs.Numbers.{numbers}
 use Rattle.linkage.specs.Tables.{links_of}
-use Rattle.closes.specs.Leaving.{column}
+use Rattle.lent.specs.Tables.{column}
 use Rattle.closes.proofs.Going.{column_count}
 use Rattle.closes.proofs.Gone.{gone_on, gone_end, gone_leave}
 use Rattle.closes.proofs.unloading.unload.Goals as goal

@@ -2,7 +2,8 @@ use Rattle.std.proofs.Common.{◌≡◌, List, drop}
 use Rattle.library.specs.Library.{Library}
 use Rattle.lent.specs.Numbers.{numbers}
 use Rattle.linkage.specs.Tables.{links_of}
-use Rattle.closes.specs.Leaving.{column, needless, gone}
+use Rattle.lent.specs.Tables.{column}
+use Rattle.closes.specs.Leaving.{needless, gone}
 use Rattle.closes.proofs.unloading.unload.Given as goal
 
 abbrev pub invariant-loop-row : goal.invariant-loop-row

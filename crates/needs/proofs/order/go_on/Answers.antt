@@ -1,11 +1,12 @@
-use Rattle.std.proofs.Common.{◌≡◌, ◌-◌, ◌<◌, ◌++◌, ◌∷◌, [], length, take, drop, map, sym, refl, ap, ◌∙◌, arith}
+use Rattle.std.proofs.Common.{◌-◌, ◌<◌, ◌++◌, ◌∷◌, [], length, take, ap, ◌∙◌, arith}
 use Rattle.std.specs.Prelude.{cond}
 use Rattle.std.proofs.lemmas.List.{drop_all}
 use Rattle.base.specs.Lists.{has}
 use Rattle.lent.specs.Once.{joined}
 use Rattle.lent.specs.Numbers.{numbers, limit}
 use Rattle.needs.specs.Visits.{visit_of}
-use Rattle.needs.specs.Walks.{entered_in, needs_at, column}
+use Rattle.lent.specs.Tables.{column}
+use Rattle.needs.specs.Walks.{entered_in, needs_at}
 use Rattle.needs.specs.Numbered.{needed}
 use Rattle.needs.proofs.Reaching.{need_missing, need_found, need_name, needs_count}
 use Rattle.needs.proofs.Rows.{last_some, below_last}

@@ -3,7 +3,8 @@ use Rattle.base.specs.Names.{Name}
 use Rattle.libraries.specs.Looks.{number_of}
 use Rattle.lent.specs.Numbers.{numbers, limit}
 use Rattle.needs.specs.Standing.{Stands, work}
-use Rattle.needs.specs.Walks.{entered_in, column}
+use Rattle.lent.specs.Tables.{column}
+use Rattle.needs.specs.Walks.{entered_in}
 use Rattle.needs.proofs.order.order.Given as goal
 
 abbrev pub invariant-loop-visit : goal.invariant-loop-visit

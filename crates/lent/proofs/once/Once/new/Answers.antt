@@ -1,6 +1,6 @@
 use Rattle.std.specs.Prelude.{replicate}
-use Rattle.std.proofs.Common.{◌≡◌, ℕ, ◌<◌, ◌≤◌, length, List, false, arith, rules, sym, ap, subst, ◌∙◌}
-use Rattle.lent.specs.Once.{is_mark, count_marks, Marked}
+use Rattle.std.proofs.Common.{◌≡◌, ℕ, length, List, arith, rules, sym, ap, subst, ◌∙◌}
+use Rattle.lent.specs.Once.{count_marks, Marked}
 use Rattle.lent.proofs.Marks.{count-zeros, marked_none}
 use Rattle.lent.proofs.once.Once.new.Goals as goal
 

@@ -1,5 +1,5 @@
 use Rattle.std.proofs.Common.{◌≡◌, suc, sym, subst, ap, ◌∙◌, ◌-◌, ◌++◌, ◌∷◌, [], take, arith}
-use Rattle.std.specs.Prelude.{Option, None, MatchOption, slice_get}
+use Rattle.std.specs.Prelude.{Option, MatchOption, slice_get}
 use Rattle.lent.specs.Tables.{rows_in}
 use Rattle.needs.specs.Walks.{entered_in}
 use Rattle.needs.specs.Visits.{visit_of}

@@ -1,6 +1,5 @@
-use Rattle.std.proofs.Common.{◌≡◌, ◌+◌, ◌-◌, ◌*◌, ◌<◌, ◌≤◌, length, ap, ◌∙◌, true, arith}
-use Rattle.std.specs.Prelude.{cond, is_ok, min, take}
-use Rattle.lent.specs.Tables.{rows_in}
+use Rattle.std.proofs.Common.{◌≡◌, ◌+◌, ◌*◌, length, ap, ◌∙◌, arith}
+use Rattle.std.specs.Prelude.{cond, is_ok}
 use Rattle.lent.proofs.Marks.{count_le}
 use Rattle.needs.proofs.Rows.{entered_take, room_is}
 use Rattle.needs.proofs.walk.Walk.leave.Goals as goal
