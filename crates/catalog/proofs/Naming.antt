@@ -1,5 +1,5 @@
 -- The library of a name, by its number.
-use Rattle.std.specs.Prelude.{None, Option, Some, MatchOption, cond}
+use Rattle.std.specs.Prelude.{None, Option, Some, Ok, MatchOption, cond}
 use Rattle.std.specs.Option.{option_map}
 use Rattle.std.proofs.Common.{◌≡◌, ℕ, zero, suc, Bool, true, false, List, [], ◌∷◌, map, sym, refl, ap, ◌∙◌}
 use Rattle.std.proofs.Math.Logic.{∥∥₁_elim}
@@ -8,6 +8,8 @@ use Rattle.std.proofs.lemmas.Bool.{or_left, or_right}
 use Rattle.base.specs.Names.{Name, same, among}
 use Rattle.base.proofs.Names.{same_is, same_self}
 use Rattle.library.specs.Library.{Library, find_library}
+use Rattle.library.specs.Text.{read}
+use Rattle.library.proofs.Distinct.{reads_once}
 use Rattle.library.specs.Distinct.{NamedOnce}
 use Rattle.library.specs.declared.types.LibraryId.{LibraryId}
 use Rattle.libraries.specs.Looks.{HasName, library_no, number_of}
@@ -37,6 +39,10 @@ none (l ∷ ls) x e = go (same l.name x) e (none ls x)
     go : (b : Bool) → cond b (Some l) (find_library ls x) ≡ None → (find_library ls x ≡ None → number_of ls x ≡ None) → cond b (Some 0) (option_map suc (number_of ls x)) ≡ None
     go true e f = let z : ◌≡◌ {A = ℕ} 0 1 = cc in cc
     go false e f = ap (option_map suc) (f e)
+
+-- no name comes twice in a text that is read
+pub distinct : (t : List ℕ) (ls : List Library) → read t ≡ Ok ls → ∥ NamedOnce ls ∥₁
+distinct t ls e = ∣ reads_once t ls e ∣₁
 
 -- a library that has the name is the first that has it
 pub number_is : (ls : List Library) (x : Name) (o : Option LibraryId) → ∥ NamedOnce ls ∥₁ → MatchOption o (find_library ls x ≡ None) (λ k. HasName ls k.0 x) → option_map library_no o ≡ number_of ls x

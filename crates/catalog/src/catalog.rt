@@ -1,5 +1,5 @@
 ghost use Rattle.library.specs.Distinct.{NamedOnce};
-ghost use Rattle.tables.specs.Store.{Named, libraries};
+ghost use Rattle.tables.specs.Store.{libraries};
 
 use crate::count::count;
 use lent::table::Table;
@@ -26,7 +26,6 @@ const CELLS: usize = 11;
 #[derive(Drop)]
 pub struct Catalog<'t, 'a> {
     pub(crate) parts: Parts<'t, 'a>,
-    ghost named: { Named parts.tables parts.names },
     ghost distinct: { ∥ NamedOnce (libraries parts.tables) ∥₁ },
 }
 
@@ -40,6 +39,7 @@ impl<'t, 'a> Catalog<'t, 'a> {
     ghost use Rattle.catalog.specs.Looks.{part_in};
 
     // Reads a text into lent words.
+    #[tactic(auto, using(crate::proofs::Naming::distinct))]
     pub fn read(text: &'t [u8], work: &'a mut [u64]) -> Result<Catalog<'t, 'a>, ReadFault>
         ensures { MatchResult result (λ c. read text.now ≡ Ok (libraries c.parts.tables)) (Failed text.now (length work.old)) }
     {
@@ -77,6 +77,7 @@ impl<'t, 'a> Libraries<'t> for Catalog<'t, 'a> {
         self.parts.tables.libs.len
     }
 
+    #[tactic(auto, using(crate::proofs::Naming::number_is))]
     fn find(&self, name: &[u8]) -> Option<LibraryId> {
         self.parts.tables.find(&self.parts.names, name)
     }

@@ -12,13 +12,12 @@ use Rattle.text.specs.declared.reader.Span.{Span}
 use Rattle.library.specs.Text.{line, lines, finished, nothing_read, read}
 use Rattle.library.specs.declared.faults.BadLine.{BadLine}
 use Rattle.lent.specs.Tables.{rows_of}
-use Rattle.lent.specs.Indexes.{Holds}
 use Rattle.lent.proofs.Rows.{rows_none}
 use Rattle.tables.specs.declared.tables.Tables.{Tables}
 use Rattle.reading.specs.declared.parts.Parts.{Parts}
 use Rattle.tables.specs.declared.draft.Draft.{Draft}
-use Rattle.tables.specs.Store.{store, library_at, progress, libraries, Inside, Sound, Room, opened, buckets, Named}
-use Rattle.reading.specs.Steps.{Kept, Finished, Lined, takes_rows, Blank, Whole}
+use Rattle.tables.specs.Store.{store, library_at, progress, libraries, Inside, Sound, Room, opened}
+use Rattle.reading.specs.Steps.{Kept, Finished, Lined, takes_rows, Blank}
 use Rattle.reading.proofs.Linewise.{room_less}
 
 -- so far all went well: what is left of the text x gives what all of it gives
@@ -42,9 +41,6 @@ no_libraries t e = ap (map (library_at (store t))) (no_rows t e)
 pub sound_none : (t : Tables) → t.libs.len ≡ 0 → Sound (store t)
 sound_none t e = let P : List (List ℕ) → Type 0 = AllByRecursion (Inside (store t)) in subst P (sym (no_rows t e)) tt
 
-pub named_none : (p : Parts) → p.tables.libs.len ≡ 0 → ((bs : List ℕ) → Holds p.names bs 0) → Named p.tables p.names
-named_none p e h = record { holds = (let P : ℕ → Type 0 = λ m. Holds p.names (buckets (length p.names.heads.now) (libraries p.tables)) m in subst P (sym e) (h _)); within = omega arith }
-
 all_bytes : (x : Name) → bytes x (record { start = 0; end = length x }) ≡ x
 all_bytes x = between_to_end x 0 (length x) (omega arith)
 
@@ -55,7 +51,7 @@ going_start p n r b l o e g s =
     record {
       text = refl;
       same = g;
-      kept = record { sound = sound_none p.tables b.libs; begun = tt; named = named_none p b.libs b.holds; some = omega arith };
+      kept = record { sound = sound_none p.tables b.libs; begun = tt; some = omega arith };
       room = record { libs = omega (arith, b.libs); needs = omega (arith, b.needs); defs = omega (arith, b.defs); inits = omega (arith, b.inits); finis = omega (arith, b.finis); cells = omega (arith, b.cells) };
       number = omega arith;
       short = omega (arith, b.small);
@@ -108,6 +104,6 @@ all_read : (p : Parts) (n : ℕ) (o : Option Draft) (r : Reader) (x : Name) → 
 all_read p n o r x g e = sym g.reads ∙ ap (λ ps. lines n (progress (store p.tables) o) (map words_of ps)) e
 
 -- behind the last line
-pub going_done : (p u : Parts) (n : ℕ) (o : Option Draft) (r : Reader) (x : Name) (f : Result Unit BadLine) → Going p n o r x → pieces 10 r ≡ [] → MatchResult f (λ _. Finished p u o) (λ e. finished (progress (store p.tables) o) ≡ Err e) → MatchResult f (λ _. Whole u x) (λ e. read x ≡ Err e)
-going_done p u n o r x (Ok t) g e h = record { named = h.kept.named; libraries = all_read p n o r x g e ∙ h.done }
+pub going_done : (p u : Parts) (n : ℕ) (o : Option Draft) (r : Reader) (x : Name) (f : Result Unit BadLine) → Going p n o r x → pieces 10 r ≡ [] → MatchResult f (λ _. Finished p u o) (λ e. finished (progress (store p.tables) o) ≡ Err e) → MatchResult f (λ _. read x ≡ Ok (libraries u.tables)) (λ e. read x ≡ Err e)
+going_done p u n o r x (Ok t) g e h = all_read p n o r x g e ∙ h.done
 going_done p u n o r x (Err b) g e h = all_read p n o r x g e ∙ h

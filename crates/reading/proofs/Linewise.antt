@@ -48,20 +48,17 @@ on_ok_true : {E X : Type 0} (r : Result (Unit {0}) E) → is_ok r ≡ true → O
 on_ok_true (Ok x) e h = h
 on_ok_true (Err x) e h = let z : ◌≡◌ {A = ℕ} 0 1 = cc in absurd (omega arith)
 
-pub shut : (p q : Parts) (d : Draft) (x : Name) (h : ℕ) (r : Result (Unit {0}) Full) → Kept p (Some d) → Room p.tables 1 0 → Closed p.tables q.tables d → x ≡ bytes p.tables.text.now d.name → h ≡ bucket_of x (length p.names.heads.now) → (0 < length p.names.heads.now → h < length p.names.heads.now) → is_ok r ≡ (ltb h (length p.names.heads.now) && ltb p.tables.libs.len (length p.names.next.now)) → q.names.heads.now ≡ cond (is_ok r) (set p.names.heads.now h (p.tables.libs.len + 1)) p.names.heads.now → OnOk r ((bs : List ℕ) → length bs ≡ p.tables.libs.len → Holds p.names bs p.tables.libs.len → Holds q.names (bs ++ h ∷ []) (p.tables.libs.len + 1)) → Shut p q d
+pub named_shut : (p : Parts) (u : Tables) (y : Index) (d : Draft) (x : Name) (h : ℕ) (r : Result (Unit {0}) Full) → Kept p (Some d) → Room p.tables 1 0 → Closed p.tables u d → x ≡ bytes p.tables.text.now d.name → h ≡ bucket_of x (length p.names.heads.now) → (0 < length p.names.heads.now → h < length p.names.heads.now) → is_ok r ≡ (ltb h (length p.names.heads.now) && ltb p.tables.libs.len (length p.names.next.now)) → y.heads.now ≡ cond (is_ok r) (set p.names.heads.now h (p.tables.libs.len + 1)) p.names.heads.now → OnOk r ((bs : List ℕ) → length bs ≡ p.tables.libs.len → Holds p.names bs p.tables.libs.len → Holds y (bs ++ h ∷ []) (p.tables.libs.len + 1)) → Named u y
 unfolding library_from store
-shut p q d x h r k m c e f g v hs grown =
+named_shut p u y d x h r k m c e f g v hs grown =
     let a : h < length p.names.heads.now = g (omega (arith, k.some, p.heads_wide)) in
     let b : p.tables.libs.len < length p.names.next.now = omega (arith, m.libs, p.next_wide) in
     let t : is_ok r ≡ true = v ∙ and_from _ _ (lt-ltb h _ a) (lt-ltb _ _ b) in
     let i = ap length (hs ∙ ap (λ z. cond z (set p.names.heads.now h (p.tables.libs.len + 1)) p.names.heads.now) t) ∙ length-set p.names.heads.now h (p.tables.libs.len + 1) in
-    record {
-      text = c.text;
-      rows = c.rows;
-      kept = record { sound = c.sound; begun = tt; named = named_more p.tables q.tables p.names q.names d h k.named c (omega (arith, m.libs, p.heads_wide)) (f ∙ ap (λ z. bucket_of z (length p.names.heads.now)) e) i (on_ok_true r t grown); some = omega (arith, k.some, c.rows) };
-      done = c.done;
-      room = c.room;
-    }
+    named_more p.tables u p.names y d h p.named c (omega (arith, m.libs, p.heads_wide)) (f ∙ ap (λ z. bucket_of z (length p.names.heads.now)) e) i (on_ok_true r t grown)
+
+pub shut : (p q : Parts) (d : Draft) → Kept p (Some d) → Closed p.tables q.tables d → Shut p q d
+shut p q d k c = record { text = c.text; rows = c.rows; kept = record { sound = c.sound; begun = tt; some = omega (arith, k.some, c.rows) }; done = c.done; room = c.room }
 
 pub finish_some : (p q : Parts) (o : Option Draft) (d : Draft) → o ≡ Some d → checked (draft_of (store p.tables) d) ≡ Ok (library_from (store p.tables) d) → Shut p q d → Finished p q o
 finish_some p q o d e c s = let P : Option Draft → Type 0 = Finished p q in subst P (sym e) (record { text = s.text; rows = s.rows; kept = s.kept; done = ap (λ r. on_ok r (λ l. Ok (libraries p.tables ++ (l ∷ [])))) c ∙ ap Ok (sym s.done); room = s.room })
@@ -84,23 +81,16 @@ pub began : (p q : Parts) (n : ℕ) (o : Option Draft) (d : Draft) (x : Name) (w
 began p q n o d x ws f e g s = record {
   text = f.text;
   rows = f.rows;
-  kept = record { sound = f.kept.sound; begun = s; named = f.kept.named; some = f.kept.some };
+  kept = record { sound = f.kept.sound; begun = s; some = f.kept.some };
   line = ap (λ r. on_ok r (λ ls. on_ok (at_line_number n (lib_words ls ws)) (λ y. Ok (record { done = ls; draft = Some (new_draft y) })))) f.done ∙ ap (λ r. on_ok (at_line_number n r) (λ y. Ok (record { done = libraries q.tables; draft = Some (new_draft y) }))) e ∙ ap (λ y. Ok (record { done = libraries q.tables; draft = Some y })) (sym g);
   room = λ m h. let r = f.room (m + 1) h in record { libs = omega arith; needs = omega arith; defs = omega arith; inits = omega arith; finis = omega arith; cells = omega arith };
 }
 
--- the index with no library more
-named_same : (t u : Tables) (x : Index) → libraries u ≡ libraries t → u.libs.len ≡ t.libs.len → Named t x → Named u x
-named_same t u x e c n =
-    let P : List Library → Type 0 = λ ls. Holds x (buckets (length x.heads.now) ls) t.libs.len in
-    let Q : ℕ → Type 0 = λ m. Holds x (buckets (length x.heads.now) (libraries u)) m in
-    record { holds = subst Q (sym c) (subst P (sym e) n.holds); within = omega (arith, n.within) }
-
-pub itemed : (p q : Parts) (n : ℕ) (d r : Draft) (w : Name) (ws : List Name) (i j : Item) → Kept p (Some d) → item_line w ws ≡ Ok j → j ≡ i → Put p.tables q.tables n d r i → q.names ≡ p.names → sized n (draft_of (store q.tables) r) ≡ Ok (draft_of (store q.tables) r) → Itemed p q n d r w ws
-itemed p q n d r w ws i j k e f t y z = record {
+pub itemed : (p q : Parts) (n : ℕ) (d r : Draft) (w : Name) (ws : List Name) (i j : Item) → Kept p (Some d) → item_line w ws ≡ Ok j → j ≡ i → Put p.tables q.tables n d r i → sized n (draft_of (store q.tables) r) ≡ Ok (draft_of (store q.tables) r) → Itemed p q n d r w ws
+itemed p q n d r w ws i j k e f t z = record {
   text = t.text;
   rows = t.rows;
-  kept = record { sound = t.sound; begun = t.starts; named = (let P : Index → Type 0 = Named q.tables in subst P (sym y) (named_same p.tables q.tables p.names t.done t.count k.named)); some = omega (arith, k.some, t.rows) };
+  kept = record { sound = t.sound; begun = t.starts; some = omega (arith, k.some, t.rows) };
   line = ap (λ v. on_ok (at_line_number n v) (λ i. on_ok (sized n (drafted n (draft_of (store p.tables) d) i)) (λ e. Ok (record { done = libraries p.tables; draft = Some e })))) (e ∙ ap Ok f) ∙ ap (λ v. on_ok v (λ e. Ok (record { done = libraries p.tables; draft = Some e }))) (ap (sized n) (sym t.draft) ∙ z) ∙ ap (λ ls. Ok (record { done = ls; draft = Some (draft_of (store q.tables) r) })) (sym t.done);
   room = t.room 1;
 }

@@ -8,13 +8,12 @@ use Rattle.library.specs.declared.faults.ReadFault.TheVariants.{Line, TooFewWord
 use Rattle.lent.specs.Indexes.{Holds}
 use Rattle.reading.specs.declared.parts.Parts.{Parts}
 use Rattle.tables.specs.declared.draft.Draft.{Draft}
-use Rattle.tables.specs.Store.{store, library_from, draft_of, progress, libraries, Sound, Begun, Room, opened, Named}
+use Rattle.tables.specs.Store.{store, library_from, draft_of, progress, libraries, Sound, Begun, Room, opened}
 
 -- tables and index between two lines, o being read
 pub record Kept (p : Parts) (o : Option Draft) : Type 0 where
   pub sound : Sound (store p.tables)
   pub begun : Begun (store p.tables) o
-  pub named : Named p.tables p.names
   pub some : 0 < p.tables.rows
 
 -- the draft d became the last library, and is indexed
@@ -77,11 +76,6 @@ pub record Blank (p : Parts) : Type 0 where
   pub finis : p.tables.finis.len ≡ 0
   pub cells : p.tables.cells.len ≡ 0
   pub holds : (bs : List ℕ) → Holds p.names bs 0
-
--- all lines of the text t were read
-pub record Whole (p : Parts) (t : Name) : Type 0 where
-  pub named : Named p.tables p.names
-  pub libraries : reading.read t ≡ Ok (libraries p.tables)
 
 -- why the text t can't be read in n lent words
 abbrev pub Failed : Name → ℕ → ReadFault → Type 0

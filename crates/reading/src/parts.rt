@@ -1,4 +1,5 @@
 ghost use Rattle.std.specs.Prelude.{◌≤◌, length};
+ghost use Rattle.tables.specs.Store.{Named};
 
 use crate::line::{Line, is_comment};
 use lent::index::{Index, bucket};
@@ -19,6 +20,7 @@ pub struct Parts<'t, 'a> {
     pub names: Index<'a>,
     ghost next_wide: { tables.rows ≤ length names.next.now },
     ghost heads_wide: { tables.rows ≤ length names.heads.now },
+    ghost named: { Named tables names },
 }
 
 impl<'t, 'a> Parts<'t, 'a> {
@@ -27,7 +29,7 @@ impl<'t, 'a> Parts<'t, 'a> {
     ghost use Rattle.text.specs.Readers.{bytes, words};
     ghost use Rattle.library.specs.Text.{finished, lib_words, lib_line, library_item, line, read};
     ghost use Rattle.tables.specs.Store.{store, draft_of, progress, libraries, Room, opened};
-    ghost use Rattle.reading.specs.Steps.{Kept, Shut, Finished, Began, Itemed, Lined, takes_rows, Blank, Whole, Failed};
+    ghost use Rattle.reading.specs.Steps.{Kept, Shut, Finished, Began, Itemed, Lined, takes_rows, Blank, Failed};
 
     // Tables without rows: of each 31 words, 30 are for a row of each table and of the index, and 1 is a bucket.
     pub fn new(text: &'t [u8], work: &'a mut [u64]) -> Parts<'t, 'a>
@@ -163,7 +165,7 @@ impl<'t, 'a> Parts<'t, 'a> {
     fn lines(&mut self) -> Result<(), BadLine>
         requires blank { Blank self.old }
         requires room { length self.old.tables.text.now / 2 < self.old.tables.rows }
-        ensures { MatchResult result (λ _. Whole self.new self.old.tables.text.now) (λ e. read self.old.tables.text.now ≡ Err e) }
+        ensures { MatchResult result (λ _. read self.old.tables.text.now ≡ Ok (libraries self.new.tables)) (λ e. read self.old.tables.text.now ≡ Err e) }
     {
         let text = self.tables.text;
         let whole = Span {
@@ -179,7 +181,7 @@ impl<'t, 'a> Parts<'t, 'a> {
 
     // Reads a text into lent words: enough of them have room for a row in each table for every two bytes.
     pub fn read(text: &'t [u8], work: &'a mut [u64]) -> Result<Parts<'t, 'a>, ReadFault>
-        ensures { MatchResult result (λ p. Whole p text.now) (Failed text.now (length work.old)) }
+        ensures { MatchResult result (λ p. read text.now ≡ Ok (libraries p.tables)) (Failed text.now (length work.old)) }
     {
         let mut parts = Parts::new(text, work);
         if parts.tables.rows <= text.len() / 2 {
