@@ -2,3 +2,4 @@
 #![tactic(auto)]
 
 pub mod cells;
+pub mod unmet;
