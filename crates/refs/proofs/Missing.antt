@@ -2,8 +2,7 @@
 use Rattle.std.specs.Prelude.{Bool, true, false, not, ◌&&◌, None, Option, Some, cond, is_none, slice_get}
 use Rattle.std.specs.Option.{option_map}
 use Rattle.std.specs.List.{position_from, list_all}
-use Rattle.std.proofs.Common.{◌≡◌, ℕ, zero, suc, ◌+◌, ◌≤◌, List, [], ◌∷◌, length, drop, sym, refl, ap, ◌∙◌, arith}
-use Rattle.std.proofs.lemmas.List.{drop_all}
+use Rattle.std.proofs.Common.{◌≡◌, ℕ, zero, suc, ◌+◌, List, [], ◌∷◌, drop, sym, refl, ap, ◌∙◌, arith}
 use Rattle.std.proofs.lemmas.Option.{same_Some, none-some}
 use Rattle.base.specs.Choices.{opt, on_some}
 use Rattle.library.specs.Library.{Library, Cell}
@@ -27,12 +26,6 @@ drop_next [] i x e = absurd (none-some _ (sym e))
 drop_next (y ∷ ys) zero x e = ap (λ z. z ∷ ys) (same_Some _ _ (sym e))
 drop_next (y ∷ ys) (suc i) x e = drop_next ys i x e ∙ (let q : suc (i + 1) ≡ suc i + 1 = omega arith in ap (λ n. x ∷ drop n (y ∷ ys)) q)
 
-drop_past : {A : Type 0} (xs : List A) (i : ℕ) → None ≡ slice_get xs i → drop i xs ≡ []
-drop_past [] zero e = refl
-drop_past [] (suc i) e = refl
-drop_past (y ∷ ys) zero e = absurd (none-some _ e)
-drop_past (y ∷ ys) (suc i) e = drop_past ys i e
-
 -- cell i of library n
 cells_of : (ls : List Library) (n i : ℕ) → part_at ls n (λ l. l.cells) i ≡ slice_get (library_at ls n).cells i
 cells_of ls n i = go (slice_get ls n)
@@ -48,18 +41,11 @@ unmet_next k ls n me i c b e m =
     ap (position_from (λ c. not (ref_met k me c)) i) (drop_next cs i c (e ∙ cells_of ls n i))
     ∙ ap (λ b. cond (not b) (Some i) (unmet_from k me (i + 1) cs)) (sym m)
 
-pub unmet_here : (k : Links) (ls : List Library) (n me i : ℕ) (c : Cell) (b : Bool) (r : Option ℕ) → Some c ≡ part_at ls n (λ l. l.cells) i → b ≡ ref_met k me c → b ≡ false → unmet_from k me i (library_at ls n).cells ≡ r → Some i ≡ r
-unmet_here k ls n me i c b r e m f h = sym (unmet_next k ls n me i c b e m ∙ ap (λ b. cond (not b) (Some i) (unmet_from k me (i + 1) (library_at ls n).cells)) f) ∙ h
+pub unmet_here : (k : Links) (ls : List Library) (n me i : ℕ) (c : Cell) (b : Bool) → Some c ≡ part_at ls n (λ l. l.cells) i → b ≡ ref_met k me c → b ≡ false → unmet_from k me i (library_at ls n).cells ≡ first_unmet k me (library_at ls n).cells → Some i ≡ first_unmet k me (library_at ls n).cells
+unmet_here k ls n me i c b e m f h = sym (unmet_next k ls n me i c b e m ∙ ap (λ b. cond (not b) (Some i) (unmet_from k me (i + 1) (library_at ls n).cells)) f) ∙ h
 
-pub unmet_on : (k : Links) (ls : List Library) (n me i : ℕ) (c : Cell) (b : Bool) (r : Option ℕ) → Some c ≡ part_at ls n (λ l. l.cells) i → b ≡ ref_met k me c → b ≡ true → unmet_from k me i (library_at ls n).cells ≡ r → unmet_from k me (i + 1) (library_at ls n).cells ≡ r
-unmet_on k ls n me i c b r e m t h = sym (unmet_next k ls n me i c b e m ∙ ap (λ b. cond (not b) (Some i) (unmet_from k me (i + 1) (library_at ls n).cells)) t) ∙ h
-
--- there is no cell i
-pub unmet_past : (k : Links) (ls : List Library) (n me i : ℕ) (r : Option ℕ) → None ≡ part_at ls n (λ l. l.cells) i → unmet_from k me i (library_at ls n).cells ≡ r → None ≡ r
-unmet_past k ls n me i r e h = sym (ap (position_from (λ c. not (ref_met k me c)) i) (drop_past (library_at ls n).cells i (e ∙ cells_of ls n i))) ∙ h
-
-pub unmet_end : (k : Links) (cells : List Cell) (me i : ℕ) (r : Option ℕ) → length cells ≤ i → unmet_from k me i cells ≡ r → None ≡ r
-unmet_end k cells me i r l h = sym (ap (position_from (λ c. not (ref_met k me c)) i) (drop_all i cells l)) ∙ h
+pub unmet_on : (k : Links) (ls : List Library) (n me i : ℕ) (c : Cell) (b : Bool) → Some c ≡ part_at ls n (λ l. l.cells) i → b ≡ ref_met k me c → b ≡ true → unmet_from k me i (library_at ls n).cells ≡ first_unmet k me (library_at ls n).cells → unmet_from k me (i + 1) (library_at ls n).cells ≡ first_unmet k me (library_at ls n).cells
+unmet_on k ls n me i c b e m t h = sym (unmet_next k ls n me i c b e m ∙ ap (λ b. cond (not b) (Some i) (unmet_from k me (i + 1) (library_at ls n).cells)) t) ∙ h
 
 -- none lacks anything
 none_where_all : {A : Type 0} (p : A → Bool) (i : ℕ) (xs : List A) → is_none (position_from (λ x. not (p x)) i xs) ≡ list_all p xs
@@ -77,13 +63,16 @@ all_where_none k me r e = ap is_none e ∙ go (slice_get k.modules me)
     go None = refl
     go (Some x) = none_where_all (ref_met k me) 0 x.lib.cells
 
--- the cells of a module, by what the tables say of it
-pub cells_are : (ls : List Library) (t : Tables) (me : ℕ) (o : Option code.Module) → o ≡ option_map (module_at t me) (slice_get (rows_in 3 t.modules) me) → opt o [] (λ m. (library_at ls m.load.library.0).cells) ≡ cells_at (links_of ls t) me
-cells_are ls t me o e = ap by_load e ∙ go (slice_get (rows_in 3 t.modules) me) ∙ ap (λ o. opt o [] (λ (x : Module). x.lib.cells)) (sym (module_is ls t me))
+-- the first of a module's cells, by what the tables say of it
+pub first_is : (ls : List Library) (t : Tables) (me : ℕ) (o : Option code.Module) (r : Option ℕ) → o ≡ option_map (module_at t me) (slice_get (rows_in 3 t.modules) me) → r ≡ first_unmet (links_of ls t) me (opt o [] (λ m. (library_at ls m.load.library.0).cells)) → r ≡ first_unmet (links_of ls t) me (cells_at (links_of ls t) me)
+first_is ls t me o r e h = h ∙ ap (first_unmet (links_of ls t) me) (ap by_load e ∙ go (slice_get (rows_in 3 t.modules) me) ∙ ap by_lib (sym (module_is ls t me)))
   where
     by_load : Option code.Module → List Cell
     by_load o = opt o [] (λ m. (library_at ls m.load.library.0).cells)
 
-    go : (r : Option (List ℕ)) → by_load (option_map (module_at t me) r) ≡ opt (option_map (module_of ls t me) r) [] (λ x. x.lib.cells)
+    by_lib : Option Module → List Cell
+    by_lib o = opt o [] (λ x. x.lib.cells)
+
+    go : (r : Option (List ℕ)) → by_load (option_map (module_at t me) r) ≡ by_lib (option_map (module_of ls t me) r)
     go None = refl
     go (Some r) = refl
