@@ -35,8 +35,8 @@ fn unmet_in<'t, L: Libraries<'t>>(
     None
 }
 
-// The first cell of module `me` whose ref must be met and isn't; none where there is no such cell, or no such module. A usize: a
-// library may have more cells than `CellNo` numbers.
+// The first cell of module `me` whose ref must be met and isn't; none where there is no such cell, or no such module.
+// No `CellNo`: `Libraries` sets no bound to how many cells a library has.
 pub fn unmet<'t, L: Libraries<'t>>(libraries: &L, tables: &Tables, me: usize) -> Option<usize>
     ensures first { result ≡ first_unmet (links_of (L.libs libraries.now) tables.now) me (cells_at (links_of (L.libs libraries.now) tables.now) me) }
     ensures met { is_none result ≡ opt (slice_get (links_of (L.libs libraries.now) tables.now).modules me) true (λ x. list_all (ref_met (links_of (L.libs libraries.now) tables.now) me) x.lib.cells) }
