@@ -1,0 +1,2 @@
+-- Lemmas on the first cell that lacks something.
+pub mod Missing

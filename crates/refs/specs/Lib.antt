@@ -1,0 +1,2 @@
+-- What a module that comes in lacks.
+pub mod Unmet
