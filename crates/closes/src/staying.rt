@@ -13,6 +13,7 @@ use crate::refusals::TooFewWords;
 use lent::once::Once;
 use libraries::Libraries;
 use library::types::LibraryId;
+use linkage::counts::count_cells;
 use linkage::tables::{Tables, number};
 
 // The number is put behind the others, where there is one; one that is no module's is skipped.
@@ -70,13 +71,6 @@ fn keep_hosts(tables: &Tables, base: usize, cells: usize, stays: &mut Once)
     for address in base..end {
         keep(host_at(tables, address), stays);
     }
-}
-
-// How many cells a library has.
-fn count_cells<'t, L: Libraries<'t>>(libraries: &L, library: LibraryId) -> usize
-    ensures { result ≡ length (library_at (L.libs libraries.now) library.0).cells }
-{
-    libraries.sizes(library).map_or(0, |sizes| sizes.cells)
 }
 
 // What a module is bound to is put behind the others, unless the module went.

@@ -2,6 +2,7 @@
 #![tactic(auto)]
 
 pub mod closing;
+pub mod counts;
 mod encoding;
 pub mod tables;
 pub mod types;

@@ -8,14 +8,8 @@ ghost use Rattle.refs.specs.Unmet.{cells_at, first_unmet};
 use crate::cells::is_met;
 use libraries::Libraries;
 use library::types::LibraryId;
+use linkage::counts::count_cells;
 use linkage::tables::Tables;
-
-// How many cells a library has.
-fn count_cells<'t, L: Libraries<'t>>(libraries: &L, library: LibraryId) -> usize
-    ensures { result ≡ length (library_at (L.libs libraries.now) library.0).cells }
-{
-    libraries.sizes(library).map_or(0, |sizes| sizes.cells)
-}
 
 // The first of a library's cells whose ref must be met for module `me` and isn't.
 fn unmet_in<'t, L: Libraries<'t>>(

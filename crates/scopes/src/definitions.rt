@@ -6,6 +6,7 @@ ghost use Rattle.linkage.specs.Tables.{library_at};
 
 use libraries::Libraries;
 use library::types::{CellNo, Definition, LibraryId, Symbol};
+use linkage::counts::count_definitions;
 
 // The version that is asked for where any will do.
 pub(crate) const ANY_VERSION: &[u8] = b"-";
@@ -17,15 +18,6 @@ fn matches(mine: bool, symbol: Symbol<&[u8]>, definition: Definition<&[u8]>) -> 
     symbol.name == definition.symbol.name
         && (symbol.version == ANY_VERSION || symbol.version == definition.symbol.version)
         && (mine || !definition.inner)
-}
-
-// How many definitions a library has.
-fn count_definitions<'t, L: Libraries<'t>>(libraries: &L, library: LibraryId) -> usize
-    ensures { result ≡ length (library_at (L.libs libraries.now) library.0).defs }
-{
-    libraries
-        .sizes(library)
-        .map_or(0, |sizes| sizes.definitions)
 }
 
 // The cell of the first definition that a symbol asks for.
