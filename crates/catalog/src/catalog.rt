@@ -94,11 +94,23 @@ impl<'t, 'a> Libraries<'t> for Catalog<'t, 'a> {
     fn sizes(&self, id: LibraryId) -> Option<Sizes> {
         let row = self.parts.tables.libs.row(id.0)?;
         Some(Sizes {
-            needs: count(row[3], row[4], self.parts.tables.needs.len),
-            definitions: count(row[5], row[6], self.parts.tables.defs.len),
-            initializers: count(row[7], row[8], self.parts.tables.inits.len),
-            finalizers: count(row[9], row[10], self.parts.tables.finis.len),
-            cells: count(row[11], row[12], self.parts.tables.cells.len),
+            needs: count(row[NEEDS], row[NEEDS + 1], self.parts.tables.needs.len),
+            definitions: count(
+                row[DEFINITIONS],
+                row[DEFINITIONS + 1],
+                self.parts.tables.defs.len,
+            ),
+            initializers: count(
+                row[INITIALIZERS],
+                row[INITIALIZERS + 1],
+                self.parts.tables.inits.len,
+            ),
+            finalizers: count(
+                row[FINALIZERS],
+                row[FINALIZERS + 1],
+                self.parts.tables.finis.len,
+            ),
+            cells: count(row[CELLS], row[CELLS + 1], self.parts.tables.cells.len),
         })
     }
 

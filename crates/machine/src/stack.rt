@@ -34,7 +34,7 @@ impl<'a> Stack<'a> {
     // The newest word, taken off; nothing changes where there is none.
     #[tactic(auto, using(std::proofs::lemmas::List::drop_more))]
     pub fn pop(&mut self) -> Option<u64>
-        ensures held { MatchOption result ((held self.old ≡ []) × (held self.new ≡ [])) (λ x. held self.old ≡ x ∷ held self.new) }
+        ensures held { MatchOption result ((held self.old ≡ []) × (self.new ≡ self.old)) (λ x. held self.old ≡ x ∷ held self.new) }
         ensures free { free self.old ≤ free self.new }
     {
         // get leaves open here what the words are behind the &mut

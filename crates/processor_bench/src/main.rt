@@ -30,18 +30,18 @@ fn batch<P: Cpu>(cpu: &mut P) -> Event
     Event::Continue
 }
 
-// Whether the machine gets home, in so many batches at most and while there is room for each.
-fn gets_home(machine: &mut Machine, batches: u64) -> bool {
+// Makes so many batches of steps, while there is room for each, or stops at the first step that doesn't go on.
+fn spin(machine: &mut Machine, batches: u64) -> Event {
     for _ in 0..batches {
         if machine.room_left() < BATCH {
-            return false;
+            break;
         }
         match batch(machine) {
             Event::Continue => {}
-            event => return event == Event::Home,
+            other => return other,
         }
     }
-    false
+    Event::Continue
 }
 
 // The number that a program shows last, once it is home.
@@ -62,7 +62,7 @@ fn shown_by(heap: Global, program: &[u64], rounds: u64) -> Result<Option<u64>, A
         return Ok(None);
     }
     machine.call(1, 0);
-    if !gets_home(&mut machine, rounds) {
+    if spin(&mut machine, rounds) != Event::Home {
         return Ok(None);
     }
     match machine.shown() {

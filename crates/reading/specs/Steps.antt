@@ -1,6 +1,6 @@
 -- What reading a line, and all lines, does to the tables.
 use Rattle.std.specs.Prelude.{None, Some}
-use Rattle.std.specs.Prelude.{◌≡◌, ℕ, ◌+◌, ◌*◌, ◌<◌, Bool, true, List, [], ◌∷◌, ◌++◌, length, Ok, Err, Option, ◌==◌}
+use Rattle.std.specs.Prelude.{◌≡◌, ℕ, ◌+◌, ◌*◌, ◌/◌, ◌<◌, ◌≤◌, Bool, true, List, [], ◌∷◌, ◌++◌, length, Ok, Err, Option, ◌==◌}
 use Rattle.base.specs.Names.{Name}
 use Rattle.library.specs.Text as reading
 use Rattle.library.specs.declared.faults.ReadFault.{ReadFault}
@@ -77,7 +77,7 @@ pub record Blank (p : Parts) : Type 0 where
   pub cells : p.tables.cells.len ≡ 0
   pub holds : (bs : List ℕ) → Holds p.names bs 0
 
--- why the text t can't be read in n lent words
+-- why the text t can't be read in n lent words: never for want of words where n is 31 and 16 for each byte
 abbrev pub Failed : Name → ℕ → ReadFault → Type 0
 Failed t n (Line b) = reading.read t ≡ Err b
-Failed t n TooFewWords = n < 31 + 16 * length t
+Failed t n TooFewWords = n / 31 ≤ length t / 2

@@ -25,6 +25,7 @@ fn library(heap: Global, i: u32) -> Result<String, AllocError> {
 // A text of at least so many bytes.
 fn text_of(heap: Global, size: usize) -> Result<Vec<u8>, AllocError> {
     let mut text = Vec::new(heap);
+    // A range, so that the loop ends by itself whatever a library's text is.
     for i in 0..u32::MAX {
         if text.len() >= size {
             break;
@@ -76,16 +77,15 @@ fn measure(rt: &HostRuntime, size: usize, timed: bool) -> io::Result<()> {
 }
 
 fn main(rt: HostRuntime) -> io::Result<()> {
-    let mut timed = false;
-    for word in env::args(&rt)?.skip(1) {
-        timed = true;
-        match word.parse::<usize>() {
+    let sizes: Vec<String> = env::args(&rt)?.skip(1).collect(rt.alloc())?;
+    if sizes.is_empty() {
+        return measure(&rt, 10000, false);
+    }
+    for size in &sizes {
+        match size.parse::<usize>() {
             Ok(size) => measure(&rt, size, true)?,
             Err(_) => println!(rt; "usage: reading_bench SIZE..")?,
         }
     }
-    if timed {
-        return Ok(());
-    }
-    measure(&rt, 10000, false)
+    Ok(())
 }
