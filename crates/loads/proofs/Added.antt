@@ -1,17 +1,19 @@
 -- The modules of the tables, and one more behind them.
 use Rattle.std.specs.Prelude.{Bool, true, false, Option, None, Some, slice_get, slice_set, slice_index}
 use Rattle.std.specs.Option.{option_map}
-use Rattle.std.proofs.Common.{◌≡◌, ℕ, zero, suc, ◌+◌, ◌<◌, ◌≤◌, eqb, ⊎_elim, List, [], ◌∷◌, ◌++◌, length, sym, refl, ap, ◌∙◌, arith}
+use Rattle.std.proofs.Common.{◌≡◌, ℕ, suc, ◌+◌, ◌<◌, ◌≤◌, eqb, ⊎_elim, List, [], ◌∷◌, ◌++◌, length, sym, refl, ap, ◌∙◌, arith}
 use Rattle.std.proofs.lemmas.Bool.{cases_eq, cases_lt, ne_eqb, eq-eqb}
 use Rattle.std.proofs.lemmas.List.{get_or-set_same, get_or-set_other}
-use Rattle.std.proofs.lemmas.Option.{none-some, slice_get_past}
+use Rattle.std.proofs.lemmas.Option.{none-some, same_Some, slice_get_past}
+use Rattle.base.proofs.Lists.{slice_get_push}
 use Rattle.base.specs.Choices.{on_some, guard}
 use Rattle.library.specs.Library.{Library}
 use Rattle.lent.specs.Tables.{rows_in}
+use Rattle.lent.specs.declared.table.Table.{Table}
 use Rattle.lent.proofs.Rows.{rows_len}
 use Rattle.links.specs.Links as links
 use Rattle.linkage.specs.Rows.{load_at}
-use Rattle.linkage.specs.Tables.{numbered, bindings_from, library_at, module_at, module_of, links_of}
+use Rattle.linkage.specs.Tables.{numbered, bindings_from, library_at, module_at, module_of, links_of, live_in}
 use Rattle.linkage.specs.declared.types.Load.{Load}
 use Rattle.linkage.specs.declared.types.Module.{Module}
 use Rattle.linkage.specs.declared.tables.Tables.{Tables}
@@ -35,16 +37,50 @@ live_before ws k n b l h m dead = ⊎_elim
 live_new : (ws : List ℕ) (k n : ℕ) → k < length ws → eqb (slice_index (slice_set ws k (n + 1)) k) (suc n) ≡ true
 live_new ws k n h = let q : slice_index (slice_set ws k (n + 1)) k ≡ suc n = get_or-set_same ws k (n + 1) 0 h ∙ omega arith in eq-eqb (slice_index (slice_set ws k (n + 1)) k) (suc n) q
 
+-- a live module, by its row
+abbrev there : Module → Option Module
+there m = guard m.live (Some m)
+
+live_row : (t : Tables) (j : ℕ) (r : List ℕ) → slice_get (rows_in 3 t.modules) j ≡ Some r → (module_at t j r).live ≡ true → live_in t j ≡ Some (module_at t j r)
+live_row t j r q p = ap (λ o. on_some (option_map (module_at t j) o) there) q ∙ ap (λ b. guard b (Some (module_at t j r))) p
+
+-- the same, by the rows of the modules and the words of the libraries alone
+abbrev module_by : List ℕ → ℕ → List ℕ → Module
+module_by ws j r = record { load = load_at r; live = eqb (slice_index ws (slice_index r 0)) (suc j) }
+
+abbrev pub live_by : Table 3 → List ℕ → ℕ → Option Module
+live_by ms ws j = on_some (option_map (module_by ws j) (slice_get (rows_in 3 ms) j)) there
+
+row_live : {P : Type 0} (ms : Table 3) (ws : List ℕ) (j : ℕ) (m : Module) → live_by ms ws j ≡ Some m → ((r : List ℕ) → slice_get (rows_in 3 ms) j ≡ Some r → (module_by ws j r).live ≡ true → m ≡ module_by ws j r → P) → P
+row_live {P} ms ws j m e k = go (slice_get (rows_in 3 ms) j) refl e
+  where
+    live : (r : List ℕ) (b : Bool) → (module_by ws j r).live ≡ b → slice_get (rows_in 3 ms) j ≡ Some r → guard b (Some (module_by ws j r)) ≡ Some m → P
+    live r true l q p = k r q l (sym (same_Some _ _ p))
+    live r false l q p = absurd (none-some _ p)
+
+    go : (o : Option (List ℕ)) → slice_get (rows_in 3 ms) j ≡ o → on_some (option_map (module_by ws j) o) there ≡ Some m → P
+    go None q p = absurd (none-some _ p)
+    go (Some r) q p = live r (module_by ws j r).live refl q p
+
 -- a row of a library that isn't there has no live module
 absent : (t : Tables) (k j : ℕ) (r : List ℕ) → IsAbsent t k → slice_get (rows_in 3 t.modules) j ≡ Some r → slice_index r 0 ≡ k → (module_at t j r).live ≡ false
 absent t k j r none q e = go (module_at t j r).live refl
   where
-    there : Module → Option Module
-    there m = guard m.live (Some m)
-
     go : (b : Bool) → (module_at t j r).live ≡ b → (module_at t j r).live ≡ false
     go false p = p
-    go true p = absurd (none j (module_at t j r) (ap (λ o. on_some (option_map (module_at t j) o) there) q ∙ ap (λ b. guard b (Some (module_at t j r))) p) e)
+    go true p = absurd (none j (module_at t j r) (live_row t j r q p) e)
+
+-- another library that isn't there still isn't, once the row of a load was put behind the others
+pub absent_still : (t : Tables) (ms : Table 3) (load : Load) (row : List ℕ) (k n : ℕ) → rows_in 3 ms ≡ rows_in 3 t.modules ++ row ∷ [] → load_at row ≡ load → (k ≡ load.library.0 → ⊥) → IsAbsent t k → (j : ℕ) (m : Module) → live_by ms (slice_set t.loaded.now load.library.0 n) j ≡ Some m → m.load.library.0 ≡ k → ⊥
+absent_still t ms load row k n rows e other none j m here is = row_live ms (slice_set t.loaded.now load.library.0 n) j m here (λ r q l s.
+    let library : slice_index r 0 ≡ k = sym (ap (λ (x : Module). x.load.library.0) s) ∙ is in
+    ⊎_elim
+    (λ p. none j (module_at t j r) (live_row t j r p (ap (λ w. eqb w (suc j)) (sym (word r library)) ∙ l)) library)
+    (λ p. other (sym library ∙ ap (λ s. slice_index s 0) (sym p.1) ∙ ap (λ (x : Load). x.library.0) e))
+    (slice_get_push (rows_in 3 t.modules) row j r (sym (ap (λ rs. slice_get rs j) rows) ∙ q)))
+  where
+    word : (r : List ℕ) → slice_index r 0 ≡ k → slice_index (slice_set t.loaded.now load.library.0 n) (slice_index r 0) ≡ slice_index t.loaded.now (slice_index r 0)
+    word r library = get_or-set_other t.loaded.now load.library.0 (slice_index r 0) n 0 (λ p. other (sym library ∙ p))
 
 -- a module by its load, live or not
 abbrev pub made : List Library → Tables → Bool → Load → links.Module
