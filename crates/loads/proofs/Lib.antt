@@ -1,0 +1,2 @@
+-- Lemmas on what becomes of the tables where something is loaded.
+pub mod Added

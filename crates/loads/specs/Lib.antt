@@ -1,0 +1,2 @@
+-- What becomes of the tables where something is loaded.
+pub mod Adding
