@@ -2,4 +2,5 @@
 mod Bound
 mod Closed
 mod Found
+mod Live
 pub mod Numbered

@@ -4,5 +4,6 @@
 pub mod closing;
 pub mod counts;
 mod encoding;
+pub mod loaded;
 pub mod tables;
 pub mod types;
