@@ -1,7 +1,8 @@
 ghost use Rattle.std.specs.Prelude.{◌≡◌, ◌≤◌, length, take};
 ghost use Rattle.lent.specs.Once.{count_marks, Marked, Below};
 
-// Numbers below a limit, each once, in the order in which they came, and how many of them were taken.
+// Numbers below a limit, each once, in the order in which they came, and how many of them were taken: words are lent, there is no
+// heap here. No queue, whose items go when they are taken, and which can't tell whether a number came.
 #[derive(Drop)]
 pub struct Once<'a> {
     pub(crate) words: &'a mut [u64],

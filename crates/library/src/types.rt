@@ -91,7 +91,8 @@ pub enum Opcode {
     Find,
 }
 
-// An instruction with its operands, in the order of the text.
+// An instruction with its operands, in the order of the text: one variant for each, as in the definition. The processor's operations
+// are a type of their own, since they know distances, and no cells.
 #[derive(Clone, Copy, PartialEq, Eq, Debug)]
 pub enum Instruction {
     Set(Register, u32),

@@ -7,8 +7,9 @@ ghost use Rattle.linkage.specs.Rows.{binding_at};
 ghost use Rattle.linkage.specs.Tables.{links_of};
 ghost use Rattle.linkage.specs.Views.{place_of};
 
-use crate::tables::{Tables, word};
+use crate::tables::Tables;
 use crate::types::{Group, Place};
+use rows::fields::word;
 use rows::row::Row;
 
 impl<'a> Tables<'a> {
@@ -34,7 +35,7 @@ impl<'a> Tables<'a> {
         let _ = self.groups.set(group, &closed.encode());
     }
 
-    // What the cell at a word of memory is bound to.
+    // What the cell at a word of memory is bound to. By hand: nothing writes such a row yet.
     pub fn bound_at(&self, address: usize) -> Option<Place>
         ensures { option_map place_of result ≡ binding_at (slice_index_or (rows_in 2 self.now.bindings) address []) }
     {

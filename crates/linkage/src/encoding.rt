@@ -3,9 +3,9 @@ ghost use Rattle.linkage.specs.Rows.{load_at, group_at};
 ghost use Rattle.linkage.specs.declared.types.Load as loads;
 ghost use Rattle.linkage.specs.declared.types.Group as groups;
 
-use crate::tables::word;
 use crate::types::{Group, Load};
 use library::types::LibraryId;
+use rows::fields::word;
 use rows::row::Row;
 
 impl Row<3> for Load {

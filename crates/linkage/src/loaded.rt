@@ -9,8 +9,9 @@ ghost use Rattle.links.specs.Load.{find_loaded};
 ghost use Rattle.linkage.specs.Tables.{links_of};
 ghost use Rattle.linkage.specs.Loaded.{Known, serves};
 
-use crate::tables::{Tables, word};
+use crate::tables::Tables;
 use library::types::LibraryId;
+use rows::fields::word;
 
 impl Tables<'_> {
     // The live module of a library.

@@ -6,6 +6,7 @@ ghost use Rattle.linkage.specs.Tables.{module_at, live_in, open_in, number_in};
 
 use crate::types::{Group, Load, Module};
 use lent::table::Table;
+use rows::fields::word;
 use rows::row::Row;
 
 // Modules and groups, a row for each. Of each word of memory, what the cell there is bound to: one more than the module, 0 for nothing;
@@ -20,13 +21,6 @@ pub struct Tables<'a> {
     pub order: Table<'a, 1>,
     pub loaded: &'a mut [u64],
     pub used: usize,
-}
-
-// Word i, or 0 where there is none.
-pub fn word(words: &[u64], i: usize) -> u64
-    ensures { result ≡ slice_index words.now i }
-{
-    words.get(i).copied().unwrap_or(0)
 }
 
 // The number in a row of numbers.

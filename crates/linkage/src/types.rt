@@ -8,7 +8,7 @@ pub struct Place {
 }
 
 // A library as it was loaded: the group that loaded it, and its first word.
-#[derive(Clone, Copy)]
+#[derive(Clone, Copy, PartialEq, Eq, Debug)]
 pub struct Load {
     pub library: LibraryId,
     pub group: usize,
@@ -16,7 +16,7 @@ pub struct Load {
 }
 
 // A library that was loaded, still there or gone.
-#[derive(Clone, Copy)]
+#[derive(Clone, Copy, PartialEq, Eq, Debug)]
 pub struct Module {
     pub load: Load,
     pub live: bool,

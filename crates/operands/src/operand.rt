@@ -26,6 +26,8 @@ pub trait Operand: Sized {
         ensures takes { MatchResult result (λ x. read (words line.old) ≡ Ok (meant line.old.text.now x, words line.new)) (λ e. read (words line.old) ≡ Err e) };
 }
 
+// Three choices of one shape are three types, and so are numbers with other limits: each has its own two words, or its own fault.
+
 // Whether a group is global: `all` or `inner`.
 #[derive(Clone, Copy, PartialEq, Eq, Debug)]
 pub struct Global(pub bool);

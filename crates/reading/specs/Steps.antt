@@ -1,6 +1,6 @@
 -- What reading a line, and all lines, does to the tables.
 use Rattle.std.specs.Prelude.{None, Some}
-use Rattle.std.specs.Prelude.{◌≡◌, ℕ, ◌+◌, ◌*◌, ◌/◌, ◌<◌, ◌≤◌, Bool, true, List, [], ◌∷◌, ◌++◌, length, Ok, Err, Option, ◌==◌}
+use Rattle.std.specs.Prelude.{◌≡◌, ℕ, ◌+◌, ◌/◌, ◌<◌, ◌≤◌, Bool, true, List, [], ◌∷◌, ◌++◌, length, Ok, Err, Option, ◌==◌}
 use Rattle.base.specs.Names.{Name}
 use Rattle.library.specs.Text as reading
 use Rattle.library.specs.declared.faults.ReadFault.{ReadFault}

@@ -20,6 +20,7 @@ fn row(kind: u64, a: u64, b: u64, c: u64) -> [u64; 6]
     [kind, a, b, c, 0, 0]
 }
 
+// By hand, as a definition's row is: an array of four words and more can't be made of an array of four.
 fn symbol_row(kind: u64, symbol: Symbol<Span>, last: u64) -> [u64; 6]
     ensures { result ≡ symbol_row kind symbol last }
 {

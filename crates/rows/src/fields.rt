@@ -62,7 +62,7 @@ impl Field for u32 {
 }
 
 // Field i of a row; 0 past its end.
-pub(crate) fn word(row: &[u64], i: usize) -> u64
+pub fn word(row: &[u64], i: usize) -> u64
     ensures { result ≡ slice_index row.now i }
 {
     row.get(i).copied().unwrap_or(0)

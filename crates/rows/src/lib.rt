@@ -2,5 +2,5 @@
 #![tactic(auto)]
 
 mod cells;
-mod fields;
+pub mod fields;
 pub mod row;

@@ -37,7 +37,8 @@ fn cell_reach(cell: Cell<Span>) -> u64
     }
 }
 
-// One more than the cell of its library that a line names; 0 where it names none.
+// One more than the cell of its library that a line names; 0 where it names none: so the greatest of all lines is one number, as in
+// the definition.
 pub(crate) fn item_reach(item: Item<Span>) -> u64
     ensures { (t : List ℕ) → result ≡ item_reach (item_of (bytes t) item) }
 {
