@@ -12,6 +12,7 @@ use library::faults::{BadLine, ReadFault};
 use library::types::LibraryId;
 use listing::list;
 use sources::{Sources, locate};
+use std::alloc::AllocError;
 use std::io::{BufWriter, Write};
 use std::process::ExitCode;
 use std::{env, fs, io};
@@ -40,7 +41,7 @@ fn gather(rt: &HostRuntime, files: &[String]) -> Result<Sources, Failure> {
     Ok(sources)
 }
 
-fn blame(files: &[String], counts: &[usize], bad: BadLine) -> Result<Failure, Failure> {
+fn blame(files: &[String], counts: &[usize], bad: BadLine) -> Result<Failure, AllocError> {
     let Some(place) = locate(counts, bad.line) else {
         return Ok(Failure::TooLong);
     };

@@ -77,19 +77,19 @@ pub fn show_in(rt: &HostRuntime, label: &str, text: &[u8], words: usize) -> io::
     }
 }
 
-// What comes of a text in as many lent words as always suffice.
+// As many lent words as always suffice for a text.
+fn enough(text: &[u8]) -> usize {
+    text.len().saturating_mul(16).saturating_add(1024)
+}
+
+// What comes of a text in as many.
 pub fn show(rt: &HostRuntime, label: &str, text: &[u8]) -> io::Result<()> {
-    show_in(
-        rt,
-        label,
-        text,
-        text.len().saturating_mul(16).saturating_add(1024),
-    )
+    show_in(rt, label, text, enough(text))
 }
 
 // Looks for libraries by name: for each of the first n, and for names that none has.
 pub fn find_all(rt: &HostRuntime, text: &[u8], n: u32) -> io::Result<()> {
-    let mut work = vec![in rt.alloc(); 0u64; text.len().saturating_mul(16).saturating_add(1024)]?;
+    let mut work = vec![in rt.alloc(); 0u64; enough(text)]?;
     let Ok(catalog) = Catalog::read(text, &mut work) else {
         return Err(io::Error::from(io::ErrorKind::InvalidData));
     };
