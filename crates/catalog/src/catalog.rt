@@ -11,7 +11,8 @@ use rows::row::Row;
 use text::reader::Span;
 use text::words::slice;
 
-// Words of a library's row that have the bounds of its parts, each with the word behind it.
+// Words of a library's row that have the bounds of its parts, each with the word behind it. Such a row is read word by word, and not
+// as one value: an accessor wants two of its thirteen words.
 const NEEDS: usize = 3;
 
 const DEFINITIONS: usize = 5;
