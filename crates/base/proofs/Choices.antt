@@ -1,4 +1,5 @@
 -- Choices: one combinator per way of choosing.
+use Rattle.std.specs.Option.{IfSome}
 use Rattle.std.specs.Result.{result_ok}
 use Rattle.std.specs.Prelude.{None, Option, Some, cond}
 use Rattle.std.proofs.Common.{◌≡◌, ℕ, Bool, true, false, Ok, Err, Result, refl, ap, arith}
@@ -20,7 +21,16 @@ pub guard_inv : {A : Type 0} (b : Bool) (x y : A) → guard b (Some x) ≡ Some 
 guard_inv true x y e = (refl, cc)
 guard_inv false x y e = let z : ◌≡◌ {A = ℕ} 0 1 = cc in absurd (omega arith)
 
--- a statement of the value of a result, one choice after the other
+-- a statement of a value, if there is one, one choice after the other
+pub some_if : {A C : Type 0} (P : C → Type 0) (o : Option A) (f : A → Option C) → ((a : A) → o ≡ Some a → IfSome (f a) P) → IfSome (on_some o f) P
+some_if P None f h = tt
+some_if P (Some a) f h = h a refl
+
+pub guard_if : {A : Type 0} (P : A → Type 0) (b : Bool) (o : Option A) → (b ≡ true → IfSome o P) → IfSome (guard b o) P
+guard_if P true o h = h refl
+guard_if P false o h = tt
+
+-- the same for results
 pub cond_ok : {A E : Type 0} (P : A → Type 0) (b : Bool) (r q : Result A E) → IfOk r P → IfOk q P → IfOk (cond b r q) P
 cond_ok P true r q x y = x
 cond_ok P false r q x y = y

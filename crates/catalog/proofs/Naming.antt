@@ -44,6 +44,11 @@ none (l ∷ ls) x e = go (same l.name x) e (none ls x)
 pub distinct : (t : List ℕ) (ls : List Library) → read t ≡ Ok ls → ∥ NamedOnce ls ∥₁
 distinct t ls e = ∣ reads_once t ls e ∣₁
 
+-- nor in no libraries
+pub distinct_none : (ls : List Library) → ls ≡ [] → ∥ NamedOnce ls ∥₁
+distinct_none [] e = ∣ tt ∣₁
+distinct_none (l ∷ ls) e = cc
+
 -- a library that has the name is the first that has it
 pub number_is : (ls : List Library) (x : Name) (o : Option LibraryId) → ∥ NamedOnce ls ∥₁ → MatchOption o (find_library ls x ≡ None) (λ k. HasName ls k.0 x) → option_map library_no o ≡ number_of ls x
 number_is ls x None d h = sym (none ls x h)

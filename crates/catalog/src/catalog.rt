@@ -31,7 +31,7 @@ pub struct Catalog<'t, 'a> {
 }
 
 impl<'t, 'a> Catalog<'t, 'a> {
-    ghost use Rattle.std.specs.Prelude.{◌≡◌, ◌<◌, ℕ, List, length, map, Ok, MatchResult};
+    ghost use Rattle.std.specs.Prelude.{◌≡◌, ◌<◌, ℕ, List, [], length, map, Ok, MatchOption, MatchResult};
     ghost use Rattle.std.specs.Option.{option_map};
     ghost use Rattle.library.specs.Text.{read};
     ghost use Rattle.lent.specs.Tables.{rows_in};
@@ -46,6 +46,28 @@ impl<'t, 'a> Catalog<'t, 'a> {
     {
         let parts = Parts::read(text, work)?;
         Ok(Catalog { parts })
+    }
+
+    // Reads a text, whatever it is: its libraries, or a catalog without libraries, and the fault.
+    pub fn read_or_empty(
+        text: &'t [u8],
+        work: &'a mut [u64],
+    ) -> (Catalog<'t, 'a>, Option<ReadFault>)
+        ensures { MatchOption result.1 (read text.now ≡ Ok (libraries result.0.parts.tables)) (λ e. (libraries result.0.parts.tables ≡ []) × Failed text.now (length work.old) e) }
+    {
+        match Catalog::read(text, work) {
+            Ok(catalog) => (catalog, None),
+            Err(fault) => (Catalog::empty(text), Some(fault)),
+        }
+    }
+
+    // No libraries.
+    #[tactic(auto, using(crate::proofs::Naming::distinct_none, reading::proofs::Going::no_libraries))]
+    fn empty(text: &'t [u8]) -> Catalog<'t, 'a>
+        ensures { libraries result.parts.tables ≡ [] }
+    {
+        let parts = Parts::new(text, &mut []);
+        Catalog { parts }
     }
 
     // Part j of a library, of those in the table, whose bounds stand in words `at` and `at + 1` of the library's row.

@@ -13,7 +13,7 @@ use library::types::LibraryId;
 use listing::list;
 use sources::{Sources, locate};
 use std::alloc::AllocError;
-use std::io::{BufWriter, Write};
+use std::io::Write;
 use std::process::ExitCode;
 use std::{env, fs, io};
 
@@ -51,12 +51,13 @@ fn blame(files: &[String], counts: &[usize], bad: BadLine) -> Result<Failure, Al
     }
 }
 
+// A page for each library, written at once.
 fn show(rt: &HostRuntime, catalog: &Catalog) -> Result<(), Failure> {
-    let mut out = BufWriter::new(rt.alloc(), rt.stdout())?;
     for id in (0..catalog.len()).map(LibraryId) {
-        list(&mut out, catalog, id)?;
+        let mut page = Vec::new(rt.alloc());
+        list(&mut page, catalog, id)?;
+        rt.stdout().write_all(&page)?;
     }
-    out.flush()?;
     Ok(())
 }
 

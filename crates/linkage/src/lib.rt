@@ -2,8 +2,10 @@
 #![tactic(auto)]
 
 pub mod closing;
+pub mod columns;
 pub mod counts;
 mod encoding;
 pub mod loaded;
+pub mod looks;
 pub mod tables;
 pub mod types;

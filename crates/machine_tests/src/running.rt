@@ -4,7 +4,7 @@ use processor::{Cpu, Event};
 
 // What is seen after some steps: the last step's event, where the machine is, its registers, what was shown last, and
 // the memory.
-#[derive(Clone, Copy)]
+#[derive(Clone, Copy, Debug)]
 pub struct Seen<const N: usize> {
     pub event: Event,
     pub at: u64,

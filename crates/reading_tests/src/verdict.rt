@@ -62,18 +62,21 @@ fn count(catalog: &Catalog) -> Tally {
 // What comes of a text in so many lent words.
 pub fn show_in(rt: &HostRuntime, label: &str, text: &[u8], words: usize) -> io::Result<()> {
     let mut work = vec![in rt.alloc(); 0u64; words]?;
-    match Catalog::read(text, &mut work) {
-        Ok(catalog) => {
-            let libraries = catalog.len();
+    let (catalog, fault) = Catalog::read_or_empty(text, &mut work);
+    let libraries = catalog.len();
+    match fault {
+        None => {
             let Tally { parts, cells, sum } = count(&catalog);
             println!(rt; "{label}: ok libraries={libraries} parts={parts} cells={cells} sum={sum}")
         }
-        Err(ReadFault::Line(bad)) => {
+        Some(ReadFault::Line(bad)) => {
             let line = bad.line;
             let fault = fault_name(bad.fault);
-            println!(rt; "{label}: line {line} {fault}, libraries=0")
+            println!(rt; "{label}: line {line} {fault}, libraries={libraries}")
         }
-        Err(ReadFault::TooFewWords) => println!(rt; "{label}: too few words, libraries=0"),
+        Some(ReadFault::TooFewWords) => println!(rt;
+            "{label}: too few words, libraries={libraries}"
+        ),
     }
 }
 
