@@ -5,7 +5,7 @@ use std::test::Fail;
 
 // A word at address 1, before the words 3, 0, 44 and 55: what the step tells, where the machine is then, and which register has which
 // value; no other register changes.
-#[derive(Clone, Copy)]
+#[derive(Clone, Copy, Debug)]
 struct Case {
     word: u64,
     event: Event,
@@ -43,7 +43,7 @@ fn all_hold(cases: &[Case]) -> Result<(), Fail> {
             *value = case.value;
         }
         if seen.event != case.event || seen.at != case.at || seen.regs != regs {
-            return Err(Fail::new(format_args!("{:x}: {seen:?}", case.word)));
+            return Err(Fail::new(format_args!("{seen:?}, where {case:?} was wanted")));
         }
     }
     Ok(())

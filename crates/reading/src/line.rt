@@ -1,4 +1,6 @@
 ghost use Rattle.std.specs.Prelude.{◌≡◌};
+ghost use Rattle.base.specs.Names.{same};
+ghost use Rattle.library.specs.Keywords.{k_lib};
 ghost use Rattle.library.specs.Text.{bad};
 ghost use Rattle.reading.specs.Steps.{mute};
 
@@ -32,4 +34,11 @@ pub(crate) fn is_comment(word: &[u8]) -> bool
         [] => true,
         [first, ..] => *first == b'#',
     }
+}
+
+// Whether a line that begins with this word begins a library.
+pub(crate) fn is_lib(word: &[u8]) -> bool
+    ensures { result ≡ same word.now k_lib }
+{
+    word == b"lib".as_slice()
 }

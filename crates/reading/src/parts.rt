@@ -1,7 +1,7 @@
 ghost use Rattle.std.specs.Prelude.{◌≤◌, length};
 ghost use Rattle.tables.specs.Store.{Named};
 
-use crate::line::{Line, is_comment};
+use crate::line::{Line, is_comment, is_lib};
 use lent::index::{Index, bucket};
 use lent::table::Table;
 use library::faults::{BadLine, LineFault, ReadFault};
@@ -152,7 +152,7 @@ impl<'t, 'a> Parts<'t, 'a> {
         if is_comment(keyword) {
             return Ok(held);
         }
-        if keyword == b"lib".as_slice() {
+        if is_lib(keyword) {
             return Ok(Some(self.lib_line(held, &mut line)?));
         }
         let Some(draft) = held else {
